@@ -29,7 +29,7 @@ FUNCTIONS = (
     "papr_give_up",
 )
 # What a pass has of its own is in a struct that C sees as parts of it.
-PLACE = re.compile(r"pub struct Place \{(.*?)\n\}", re.DOTALL)
+POINTER = re.compile(r"pub struct WorkingPointer \{(.*?)\n\}", re.DOTALL)
 
 # Swaps in the sources by which a caller in C would read another field, or pass another value.
 SWAPPED = (
@@ -48,8 +48,8 @@ def header() -> Header:
 def text_of_sources() -> str:
     """The sources of this checkout, as one text, in which the parts of a pass are its own."""
     text = without_remarks("\n".join(text_of(path) for path in SOURCES))
-    place = PLACE.search(text)
-    return text.replace("pub(crate) place: Place,", place[1] if place else "")
+    pointer = POINTER.search(text)
+    return text.replace("pub(crate) pointer: WorkingPointer,", pointer[1] if pointer else "")
 
 
 def sources() -> Sources:

@@ -3,9 +3,9 @@ use Rattle.std.proofs.Common.{◌≡◌, ℕ, zero, suc, ◌+◌, ◌<◌, ◌�
 use Rattle.std.proofs.lemmas.List.{take_all, drop_all}
 use Rattle.std.proofs.Math.Numerals.{add-one}
 use Rattle.std.proofs.lemmas.Bool.{cases_lt}
-use Rattle.c_layout.specs.Places.{filled, placed}
+use Rattle.c_layout.specs.Slots.{filled, placed}
 
--- One more place: the next item.
+-- One more slot: the next item.
 fill_next :
     {X : Type 0} (items old : List X) (i : ℕ) (d : X)
     → i < length items

@@ -2,15 +2,15 @@
 use Rattle.std.specs.Prelude.{◌||◌, not}
 use Rattle.std.proofs.Common.{◌≡◌, ℕ, zero, suc, ◌<◌, ◌⊎◌, inl, inr, List, [], ◌∷◌, length, set, get_or, Bool, true, false, arith, refl, sym, ap, subst, ◌∙◌}
 use Rattle.std.proofs.lemmas.Bool.{cases_Bool}
-use Rattle.std.proofs.lemmas.List.{length-map, get_or-map, get_or_read}
-use Rattle.entry_model.specs.State.{State, empty_state}
+use Rattle.std.proofs.lemmas.List.{length-map}
+use Rattle.entry_model.specs.State.{State, empty_state, Follows}
 use Rattle.entry_model.specs.History.{state_eq, bits}
-use Rattle.entry_model.specs.Run.{state_at}
 use Rattle.entry_model.proofs.Follows.{stays, follows_on, same_or_more}
 use Rattle.entry_model.proofs.Sorted.{state_same, state_self}
 use Rattle.hpt_resize.specs.Holders.{all_holding}
 use Rattle.c_layout.specs.EntryFacts.{same_entry}
-use Rattle.c_layout.specs.Entries.{Entry, states_of, entry_with, entries_with, AreMarked, IsLater, IsPassed, ArePassed}
+use Rattle.c_layout.specs.Entries.{Entry, states_of, entry_with, entries_with, AreMarked, IsPassed, ArePassed}
+use Rattle.std.proofs.Math.Bool.{or-true}
 
 -- ---- states and entries
 pub states-length : (es : List Entry) → length (states_of es) ≡ length es
@@ -26,23 +26,8 @@ states-set (x ∷ es) (suc i) e = ap (λ ss. x.state ∷ ss) (states-set es i e)
 abbrev pub no_entry : Entry
 no_entry = record { state = empty_state 0; marked = false }
 
--- What is read of an entry.
-pub read_state :
-    (es : List Entry) (i : ℕ) (e : Entry)
-    → i < length es
-    → e ≡ get_or es i e
-    → e.state ≡ state_at (states_of es) i
-read_state es i e inside is =
-    ap (λ (x : Entry). x.state) (get_or_read es i e inside is no_entry)
-    ∙ sym (get_or-map (λ (x : Entry). x.state) es i no_entry (empty_state 0) inside)
-
--- ---- one entry
-or_true : (b : Bool) → (b || true) ≡ true
-or_true true = refl
-or_true false = refl
-
 -- Later both ways is the same.
-no_way_back : (s t : State) → IsLater s t → IsLater t s → t ≡ s
+no_way_back : (s t : State) → Follows s t → Follows t s → t ≡ s
 no_way_back s t (inl a) (inl b) = at (same_or_more s t a) (same_or_more t s b) where
   at : (t ≡ s) ⊎ (bits s < bits t) → (s ≡ t) ⊎ (bits t < bits s) → t ≡ s
   at (inl same) more = same
@@ -55,8 +40,8 @@ no_way_back s t (inr a) (inr b) = absurd (omega (arith, a, b))
 -- A state that was left isn't come back to, so one of two changes is told by the last state.
 told_once :
     (s t u : State)
-    → IsLater s t
-    → IsLater t u
+    → Follows s t
+    → Follows t u
     → (not (state_eq s t) || not (state_eq t u)) ≡ not (state_eq s u)
 told_once s t u a b = at (cases_Bool (state_eq s t)) (cases_Bool (state_eq s u)) where
   at :
@@ -67,7 +52,7 @@ told_once s t u a b = at (cases_Bool (state_eq s t)) (cases_Bool (state_eq s u))
   at (inr left) (inr other) = rw (left, other) refl
   at (inr left) (inl back) =
       let here : t ≡ s =
-      no_way_back s t a (subst (λ x. IsLater t x) (sym (state_same s u back)) b) in
+      no_way_back s t a (subst (λ x. Follows t x) (sym (state_same s u back)) b) in
       let same : state_eq s t ≡ true = ap (state_eq s) here ∙ state_self s in
       absurd (cc)
 
@@ -148,17 +133,14 @@ change_marked e s other = at (cases_Bool (state_eq e.state s)) where
       (state_eq e.state s ≡ true) ⊎ (state_eq e.state s ≡ false)
       → (entry_with e s).marked ≡ true
   at (inl same) = absurd (other (state_same e.state s same))
-  at (inr not_same) = rw not_same (or_true e.marked)
-
-pub mark_stays : (e : Entry) (s : State) → e.marked ≡ true → (entry_with e s).marked ≡ true
-mark_stays e s is = rw is refl
+  at (inr not_same) = rw not_same (or-true e.marked)
 
 pub unmarked_same : (e : Entry) (s : State) → (entry_with e s).marked ≡ false → e.state ≡ s
 unmarked_same e s none = at (cases_Bool (state_eq e.state s)) where
   at : (state_eq e.state s ≡ true) ⊎ (state_eq e.state s ≡ false) → e.state ≡ s
   at (inl same) = state_same e.state s same
   at (inr other) =
-      let marked : (entry_with e s).marked ≡ true = rw other (or_true e.marked) in
+      let marked : (entry_with e s).marked ≡ true = rw other (or-true e.marked) in
       absurd (cc)
 
 -- Entries hold states as all holders do.

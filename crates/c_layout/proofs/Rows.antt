@@ -3,10 +3,10 @@ use Rattle.std.proofs.Common.{◌≡◌, ℕ, [], ◌∷◌, true, None, refl}
 use Rattle.entry_model.specs.State.{State}
 use Rattle.entry_model.specs.declared.operation.Op.TheVariants.{Remove}
 use Rattle.entry_model.specs.Receipt.{receipt_of}
-use Rattle.c_layout.specs.Places.{filled, shown_receipt}
+use Rattle.c_layout.specs.Slots.{filled, shown_receipt}
 use Rattle.c_layout.specs.Accesses.{want_of}
 
--- ---- places
+-- ---- slots
 too_small : filled {X = ℕ} (1 ∷ 2 ∷ []) (7 ∷ 8 ∷ 9 ∷ []) ≡ 7 ∷ 8 ∷ []
 too_small = refl
 

@@ -1,7 +1,7 @@
 -- Entries as C has them: each has a state, and a mark that tells whether it was changed since it
 -- was last asked.
-use Rattle.std.specs.Prelude.{◌≡◌, ◌<◌, ◌||◌, ◌⊎◌, not, Bool, true, false, List, [], ◌∷◌, length, map}
-use Rattle.entry_model.specs.State.{State, OnlyRaisesBits}
+use Rattle.std.specs.Prelude.{◌≡◌, ◌||◌, not, Bool, true, false, List, [], ◌∷◌, length, map}
+use Rattle.entry_model.specs.State.{State, Follows}
 use Rattle.entry_model.specs.History.{state_eq}
 
 -- One entry.
@@ -21,7 +21,7 @@ entry_with e state = record {
   marked = e.marked || not (state_eq e.state state);
 }
 
--- So of each entry by the state at its place. An entry without one stays.
+-- So of each entry by the state at its index. An entry without one stays.
 abbrev pub entries_with : List Entry → List State → List Entry
 entries_with [] states = []
 entries_with (e ∷ es) [] = e ∷ es
@@ -33,15 +33,10 @@ abbrev pub AreMarked : List Entry → List Entry → Type 0
 AreMarked old new = new ≡ entries_with old (states_of new)
 
 -- ---- one change behind the other
--- The second state comes from the first by operations: it is a later one, or the same with further
--- bits.
-abbrev pub IsLater : State → State → Type 0
-IsLater s t = OnlyRaisesBits s t ⊎ (s.stamp < t.stamp)
-
 -- The second entry is the first with a later state, and so marked.
 pub record IsPassed (old new : Entry) : Type 0 where
   pub marked : new ≡ entry_with old new.state
-  pub later : IsLater old.state new.state
+  pub later : Follows old.state new.state
 
 -- So of all of them.
 abbrev pub ArePassed : List Entry → List Entry → Type 0

@@ -1,4 +1,4 @@
-pub mod Places
+pub mod Slots
 pub mod Stale
 pub mod Replies
 pub mod Tables

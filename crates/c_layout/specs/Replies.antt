@@ -7,11 +7,11 @@ use Rattle.c_layout.specs.declared.receipts.PaprReceipt.{PaprReceipt}
 use Rattle.c_layout.specs.declared.reply.PaprReply.{PaprReply}
 use Rattle.c_layout.specs.Stale.{any_stale}
 
--- H_PARAMETER, and no place filled.
+-- H_PARAMETER, and no slot filled.
 abbrev pub refused_reply : PaprReply
 refused_reply = record { rc = rc_code Parameter; words = 0; receipts = 0; stale = false }
 
--- The code of a reply, how many of the places it fills, and whether a cached translation may be one
+-- The code of a reply, how many of the slots it fills, and whether a cached translation may be one
 -- no more.
 abbrev pub reply_told : HReply → List ℕ → List PaprReceipt → PaprReply
 reply_told reply words receipts = record {

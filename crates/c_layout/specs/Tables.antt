@@ -1,5 +1,5 @@
 -- Which entries of C are a table.
-use Rattle.std.specs.Prelude.{◌==◌, ◌&&◌, ℕ, nat_le, Bool, List, length}
+use Rattle.std.specs.Prelude.{◌==◌, ◌&&◌, ℕ, Bool, List, length}
 use Rattle.hpte_fields.specs.TableSize.{entry_count, is_table_order}
 use Rattle.entry_model.specs.State.{State}
 

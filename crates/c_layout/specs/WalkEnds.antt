@@ -25,7 +25,7 @@ abbrev pub mode_of : PaprAccess → Want → AccessMode
 mode_of a want = access_mode a.key a.no_execute want (masks_of a)
 
 -- ---- without an entry
--- An outcome, how many places for receipts are filled, and nothing else.
+-- An outcome, how many slots for receipts are filled, and nothing else.
 abbrev pub no_entry : ℕ → ℕ → PaprWalk
 no_entry outcome receipts = record {
   logical = 0;

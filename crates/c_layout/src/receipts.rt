@@ -1,5 +1,6 @@
 ghost use Rattle.std.specs.Prelude.{◌≡◌, ◌≤◌, length, map, min, set};
-ghost use Rattle.c_layout.specs.Places.{filled, answer_number, bits_number, shown_receipt};
+ghost use Rattle.c_layout.specs.Slots.{filled, answer_number, shown_receipt};
+ghost use Rattle.entry_model.specs.State.{bits_number};
 
 use entry_model::{Answer, EntryState, Receipt};
 
@@ -23,7 +24,7 @@ pub struct PaprReceipt {
 }
 
 fn answer_number(answer: Answer) -> u8
-    ensures { result ≡ Rattle.c_layout.specs.Places.answer_number answer }
+    ensures { result ≡ Rattle.c_layout.specs.Slots.answer_number answer }
 {
     match answer {
         Answer::Entered => 0,
@@ -42,7 +43,7 @@ fn answer_number(answer: Answer) -> u8
 }
 
 fn bits_number(state: &EntryState) -> u8
-    ensures { result ≡ Rattle.c_layout.specs.Places.bits_number state.now }
+    ensures { result ≡ Rattle.entry_model.specs.State.bits_number state.now }
 {
     let referenced = if state.referenced { 2 } else { 0 };
     let changed = if state.changed { 1 } else { 0 };
@@ -64,24 +65,24 @@ fn shown(receipt: &Receipt) -> PaprReceipt
     }
 }
 
-/// Puts a receipt into the caller's place, where there is one.
-pub fn put_receipt(receipt: &Receipt, places: &mut [PaprReceipt], place: u32)
-    ensures { places.new ≡ set places.old place (shown_receipt receipt.now) }
+/// Puts a receipt into the caller's slot, where there is one.
+pub fn put_receipt(receipt: &Receipt, slots: &mut [PaprReceipt], index: u32)
+    ensures { slots.new ≡ set slots.old index (shown_receipt receipt.now) }
 {
-    if (place as usize) < places.len() {
-        places[place as usize] = shown(receipt);
+    if (index as usize) < slots.len() {
+        slots[index as usize] = shown(receipt);
     }
 }
 
-/// Puts receipts into the caller's places, as far as these go, and gives how many it put.
-pub fn put_receipts(made: &[Receipt], places: &mut [PaprReceipt]) -> u32
+/// Puts receipts into the caller's slots, as far as these go, and gives how many it put.
+pub fn put_receipts(made: &[Receipt], slots: &mut [PaprReceipt]) -> u32
     requires { length made.now ≤ 16 }
-    ensures filled { places.new ≡ filled places.old (map shown_receipt made.now) }
-    ensures count { result ≡ min (length places.old) (length made.now) }
+    ensures filled { slots.new ≡ filled slots.old (map shown_receipt made.now) }
+    ensures count { result ≡ min (length slots.old) (length made.now) }
 {
-    let count = made.len().min(places.len());
+    let count = made.len().min(slots.len());
     for i in 0..count {
-        places[i] = shown(&made[i]);
+        slots[i] = shown(&made[i]);
     }
     count as u32
 }

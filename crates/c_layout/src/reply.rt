@@ -1,13 +1,13 @@
 ghost use Rattle.std.specs.Prelude.{◌≡◌, ◌≤◌, length, min, set};
 ghost use Rattle.papr_codes.specs.ReturnCodes.{rc_code};
-ghost use Rattle.c_layout.specs.Places.{filled};
+ghost use Rattle.c_layout.specs.Slots.{filled};
 ghost use Rattle.c_layout.specs.Replies.{refused_reply};
 
 use entry_model::Registers;
 use papr_codes::Rc;
 
 /// What a hypervisor call answers: its return code, as register 3 has it, how many of the caller's
-/// places for words and for receipts were filled, and whether cached translations have to be
+/// slots for words and for receipts were filled, and whether cached translations have to be
 /// dropped.
 #[repr(C)]
 #[derive(Clone, Copy)]
@@ -36,10 +36,10 @@ impl PaprReply {
         }
     }
 
-    /// A code, how many of the caller's places are filled, and whether a cached translation may be
+    /// A code, how many of the caller's slots are filled, and whether a cached translation may be
     /// one no more.
     #[inline]
-    pub fn told(rc: Rc, words: u32, receipts: u32, stale: bool) -> PaprReply
+    pub fn answered(rc: Rc, words: u32, receipts: u32, stale: bool) -> PaprReply
         ensures { result
             ≡ record {
               rc = rc_code rc;
@@ -57,31 +57,31 @@ impl PaprReply {
     }
 }
 
-/// Puts a word into the caller's place, where there is one.
+/// Puts a word into the caller's slot, where there is one.
 #[inline]
-pub fn put_word(word: u64, places: &mut [u64], place: usize)
-    ensures { places.new ≡ set places.old place word }
+pub fn put_word(word: u64, slots: &mut [u64], index: usize)
+    ensures { slots.new ≡ set slots.old index word }
 {
-    if place < places.len() {
-        places[place] = word;
+    if index < slots.len() {
+        slots[index] = word;
     }
 }
 
-/// Puts words into the caller's places, as far as these go, and gives how many it put.
+/// Puts words into the caller's slots, as far as these go, and gives how many it put.
 // Each is tested against the room, so that two words take no call of memcpy.
 #[inline]
-fn put_words(made: &[u64], places: &mut [u64]) -> u32
+fn put_words(made: &[u64], slots: &mut [u64]) -> u32
     requires { length made.now ≤ 8 }
-    ensures filled { places.new ≡ filled places.old made.now }
-    ensures count { result ≡ min (length places.old) (length made.now) }
+    ensures filled { slots.new ≡ filled slots.old made.now }
+    ensures count { result ≡ min (length slots.old) (length made.now) }
 {
     for i in 0..made.len() {
-        put_word(made[i], places, i);
+        put_word(made[i], slots, i);
     }
-    filled_count(places.len(), made.len() as u32)
+    filled_count(slots.len(), made.len() as u32)
 }
 
-/// Puts what a call left in registers into the caller's places, as far as these go. The receipts
+/// Puts what a call left in registers into the caller's slots, as far as these go. The receipts
 /// of the entries that it tried were put already.
 #[inline]
 pub fn hand_over(
@@ -108,7 +108,7 @@ pub fn hand_over(
     }
 }
 
-/// How many of the caller's places are filled.
+/// How many of the caller's slots are filled.
 #[inline]
 pub fn filled_count(room: usize, made: u32) -> u32
     ensures { result ≡ min room made }

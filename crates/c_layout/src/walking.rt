@@ -69,7 +69,7 @@ pub struct PaprWalk {
     /// translates the page, 3 where the arguments are out of range, 4 where AMR refuses the access,
     /// 5 where IAMR does.
     pub outcome: u32,
-    /// How many of the caller's places for receipts were filled.
+    /// How many of the caller's slots for receipts were filled.
     pub receipts: u32,
     /// The entry's base page size, as a binary logarithm of bytes.
     pub base_shift: u8,

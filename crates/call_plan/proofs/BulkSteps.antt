@@ -1,5 +1,5 @@
 -- One step of H_BULK_REMOVE: a pair, with what completes the pairs behind it.
-use Rattle.std.proofs.Common.{◌≡◌, ℕ, ◌+◌, ◌-◌, ◌*◌, ◌%◌, ◌^◌, ◌<◌, ◌≤◌, ◌==◌, List, [], ◌∷◌, ◌++◌, Bool, true, false, not, Option, Some, None, ◌⊎◌, inl, inr, nat_lt, arith, ap, sym, ◌∙◌, refl, subst, length, length-drop, take, drop, get_or, append_assoc, append-nil}
+use Rattle.std.proofs.Common.{◌≡◌, ℕ, ◌+◌, ◌-◌, ◌*◌, ◌%◌, ◌^◌, ◌<◌, ◌≤◌, ◌==◌, List, [], ◌∷◌, ◌++◌, true, false, Option, Some, None, ◌⊎◌, inl, inr, nat_lt, arith, ap, sym, ◌∙◌, refl, subst, length, length-drop, take, drop, get_or, append_assoc, append-nil}
 use Rattle.std.proofs.lemmas.Bool.{cases_Bool, ltb-true}
 use Rattle.std.proofs.lemmas.List.{drop_more, drop_all, take_rest}
 use Rattle.papr_codes.specs.declared.codes.Rc.{Rc}
@@ -16,11 +16,9 @@ use Rattle.call_plan.specs.Bulk.{Pair, pairs_of, type_of, flags_of, index_of, te
 use Rattle.papr_codes.specs.declared.codes.Rc.TheVariants as rc
 use Rattle.entry_model.specs.declared.operation.Op.TheVariants as ops
 use denote.Enum.Bare.{sameb}
+use Rattle.entry_model.proofs.Trials.{not_worn}
 
--- An answer after which the next pair is taken.
-abbrev pub not_worn : Answer → Bool
-not_worn answer = not (is_worn answer)
-
+-- A request and its word as a pair.
 abbrev pub pair : ℕ → ℕ → Pair
 pair request word = record { request = request; word = word }
 
@@ -28,6 +26,7 @@ pair request word = record { request = request; word = word }
 abbrev pub calls_of : ℕ → List ℕ → List Call
 calls_of order words = bulk_calls order (pairs_of words)
 
+-- The code and the words that the pairs of these words give with these receipts.
 abbrev pub told_of : ℕ → List ℕ → List Receipt → Rc × List ℕ
 told_of order words rs = bulk_told order (pairs_of words) rs
 
@@ -36,6 +35,7 @@ abbrev pub after_words : List ℕ → Rc × List ℕ → Rc × List ℕ
 after_words words rest = (rest.0, words ++ rest.1)
 
 -- ---- the words of the pairs from the i-th on
+-- The words without those of the first i pairs.
 abbrev pub words_from : ℕ → List ℕ → List ℕ
 words_from i words = drop (2 * i) words
 
@@ -221,6 +221,7 @@ words_to_end n pairs eight =
     subst (λ m. take (m - n) (drop n pairs) ≡ drop n pairs) eight (take_rest pairs n)
 
 -- ---- how a call ends
+-- What the i-th of these pairs of words, counted from 0, asks of a table of this order.
 abbrev pub asked_at : ℕ → ℕ → List ℕ → Asked
 asked_at order i pairs = asked_by order (pair (get_or pairs (2 * i) 0) (get_or pairs (2 * i + 1) 0))
 

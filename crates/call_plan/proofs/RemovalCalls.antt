@@ -72,7 +72,7 @@ removals_at order words i eight below inside =
     ∙ ap (first_asked order) (drop_pairs words i ∙ ap pairs_of (first_pair i words eight below))
 
 -- ---- how many there are
-pairs_few : (words : List ℕ) → 2 * length (pairs_of words) ≤ length words
+pub pairs_few : (words : List ℕ) → 2 * length (pairs_of words) ≤ length words
 pairs_few [] = omega arith
 pairs_few (a ∷ []) = omega arith
 pairs_few (a ∷ b ∷ words) = omega (arith, pairs_few words)
@@ -82,7 +82,7 @@ before_few End rest = omega arith
 before_few (Remove entry test) rest = omega arith
 before_few Refused rest = omega arith
 
-calls_few : (order : ℕ) (ps : List Pair) → length (bulk_calls order ps) ≤ length ps
+pub calls_few : (order : ℕ) (ps : List Pair) → length (bulk_calls order ps) ≤ length ps
 unfolding bulk_calls
 calls_few order [] = omega arith
 calls_few order (p ∷ ps) =

@@ -1,8 +1,8 @@
 -- H_BULK_REMOVE shows C of each entry that it removes.
-use Rattle.std.specs.Prelude.{IsTrue, ◌==◌, ◌&&◌, ◌||◌, not, nat_lt, if◌then◌else◌}
+use Rattle.std.specs.Prelude.{IsTrue, ◌==◌, ◌&&◌, nat_lt, if◌then◌else◌}
 use Rattle.std.proofs.Common.{◌≡◌, ℕ, ◌+◌, ◌/◌, ◌%◌, ◌^◌, List, [], ◌∷◌, Bool, true, false, ap, sym, ◌∙◌, refl, subst, ◌⊎◌, inl, inr, arith, Option, Some, None}
 use Rattle.std.specs.List.{AllByRecursion}
-use Rattle.std.proofs.lemmas.Bool.{cases_Bool, cond_both, eq-eqb}
+use Rattle.std.proofs.lemmas.Bool.{cases_Bool, cond_both, eq-eqb, or_right}
 use Rattle.papr_codes.specs.declared.codes.Rc.{Rc}
 use Rattle.hpte_fields.specs.TableSize.{entry_count}
 use Rattle.entry_model.specs.State.{State}
@@ -17,6 +17,7 @@ use Rattle.call_plan.specs.declared.bulk.Asked.TheVariants.{End, Remove, Refused
 use Rattle.call_plan.specs.Bulk.{Pair, pairs_of, type_of, flags_of, index_of, test_by, removes_under, asked_by, response, removed_status, status_of, is_removed_changed, pairs_show, calls_before, bulk_calls, words_after_answer, pair_told, bulk_told, h_bulk_remove_plan}
 use Rattle.entry_model.specs.declared.operation.Answer.TheVariants as answers
 use Rattle.entry_model.specs.declared.operation.Op.TheVariants as ops
+use Rattle.entry_model.proofs.Trials.{not_worn}
 
 -- The receipt is one of a removal; where it removed an entry that had C, a pair of the entry shows
 -- it.
@@ -25,9 +26,6 @@ pub record ShowsRemoved (words : List ℕ) (r : Receipt) : Type 0 where
   pub op : r.op ≡ ops.Remove test
   pub shows :
       r.answer ≡ answers.Removed → r.before.changed ≡ true → IsTrue (pairs_show words r.entry)
-
-abbrev not_worn : Answer → Bool
-not_worn answer = not (is_worn answer)
 
 -- ---- the entry that a pair names
 abbrev Names : Asked → Pair → Type 0
@@ -85,10 +83,6 @@ shown_first p words r names removed changed =
     (λ n. is_removed_changed (response n p.request)) status ∙ status_changed r.before p.request
     changed in
     rw (index, bit) refl
-
-or_right : (a b : Bool) → b ≡ true → (a || b) ≡ true
-or_right true b h = refl
-or_right false b h = h
 
 shown_later :
     (request word : ℕ) (words : List ℕ) (r : Receipt)

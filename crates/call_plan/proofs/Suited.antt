@@ -6,18 +6,19 @@ use Rattle.std.proofs.lemmas.Nat.{and_le_r, or_lt}
 use Rattle.std.specs.List.{range_with_len}
 use Rattle.hpte_fields.specs.Fields.{stored_first, stored_second, normal_words}
 use Rattle.papr_codes.specs.FlagBits.{has_flag}
-use Rattle.papr_codes.specs.declared.codes.Rc.TheVariants.{Parameter, Hardware}
+use Rattle.papr_codes.specs.declared.codes.Rc.TheVariants.{Hardware}
 use Rattle.frame_grants.specs.declared.grant.Grant.{Grant}
 use Rattle.entry_model.specs.declared.operation.Op.{Op}
 use Rattle.entry_model.specs.declared.operation.Op.TheVariants.{Enter}
 use Rattle.entry_model.specs.declared.receipt.Receipt.{Receipt}
 use Rattle.entry_model.specs.Receipt.{is_taken, is_worn}
-use Rattle.entry_model.specs.Trial.{plan_of_code, call}
+use Rattle.entry_model.specs.Trial.{call}
 use Rattle.entry_model.proofs.Heights.{calls_cost}
-use Rattle.entry_model.proofs.PlanBounds.{EntersOnly, IsTame, NoneWorn, answered_tame, each_call, entries_cost}
+use Rattle.entry_model.proofs.PlanBounds.{EntersOnly, IsTame, NoneWorn, each_call, entries_cost}
 use Rattle.call_plan.specs.Enter.{candidates, enter_told}
 use Rattle.page_grants.specs.Suited.{suits_grants, suited_words, entered_words}
 use Rattle.call_plan.specs.Checks.{h_enter_plan, words_plan}
+use Rattle.call_plan.proofs.Tame.{refused_tame}
 
 -- Words whose page is granted with these storage control bits, the first of them a doubleword.
 pub record IsSuited (grants : List Grant) (dword0 dword1 : ℕ) : Type 0 where
@@ -67,9 +68,6 @@ told_one r rs fine rest = at (cases_Bool (is_taken r.answer)) where
 told_fine : (rs : List Receipt) → NoneWorn rs → (enter_told rs).0 ≢ Hardware
 told_fine [] fine = λ e. cc
 told_fine (r ∷ rs) fine = told_one r rs fine.0 (told_fine rs fine.1)
-
-refused_tame : (W : ℕ → ℕ → Type 0) → IsTame W (plan_of_code Parameter)
-refused_tame W = answered_tame W Parameter (λ e. cc)
 
 suited_fits :
     (grants : List Grant) (words : Option (ℕ × ℕ))

@@ -18,10 +18,10 @@ use Rattle.call_plan.specs.declared.bulk.Asked.{Asked}
 use Rattle.call_plan.specs.declared.bulk.Asked.TheVariants.{End, Remove, Refused}
 use Rattle.call_plan.specs.Single.{single_plan, h_remove_plan, h_protect_plan, h_read_plan, h_clear_ref_plan, h_clear_mod_plan, remove_test, protect_test, both_words, second_word, read_entries, told_by, code_and_words}
 use Rattle.call_plan.specs.Bulk.{Pair, pairs_of, asked_by, calls_before, bulk_calls, pair_told, bulk_told, h_bulk_remove_plan}
-use Rattle.call_plan.proofs.BulkSteps.{not_worn}
 use Rattle.papr_codes.specs.declared.codes.Rc.TheVariants as rc
 use Rattle.entry_model.specs.declared.operation.Answer.TheVariants as answers
 use Rattle.entry_model.specs.declared.operation.Op.TheVariants as ops
+use Rattle.entry_model.proofs.Trials.{not_worn}
 
 -- ---- one entry
 answer_fine :
@@ -39,7 +39,7 @@ told_fine :
 told_fine words [] fine = λ e. cc
 told_fine words (r ∷ rs) fine = answer_fine r.answer (words r) fine.0
 
-refused_tame : (W : ℕ → ℕ → Type 0) → IsTame W (plan_of_code rc.Parameter)
+pub refused_tame : (W : ℕ → ℕ → Type 0) → IsTame W (plan_of_code rc.Parameter)
 refused_tame W = answered_tame W rc.Parameter (λ e. cc)
 
 single_tame :

@@ -11,30 +11,31 @@ use Rattle.entry_model.specs.declared.operation.Answer.TheVariants as answers
 use Rattle.entry_model.specs.declared.operation.Op.TheVariants as ops
 use Rattle.entry_model.specs.declared.receipt.Receipt.{Receipt}
 use Rattle.entry_model.specs.State.{State, empty_state}
-use Rattle.entry_model.specs.Reply.{reply_of, entered_state}
+use Rattle.entry_model.specs.Reply.{reply_of, entered_state, no_test}
 use Rattle.entry_model.specs.Run.{state_at, states_after}
 use Rattle.entry_model.specs.Trial.{Plan, call, receipt_at, trial_run, plan_run, plan_of_code}
 use Rattle.bus_window.specs.Windows.{BusWindow, entry_at}
 use Rattle.dma_window.specs.Pages.{is_ram}
-use Rattle.dma_window.specs.Entries.{address_of, permits, first_word, second_word, no_test}
+use Rattle.dma_window.specs.Entries.{address_of, permits, first_word, second_word}
 use Rattle.dma_window.specs.Calls.{code_by_last, clear_plan, replace_plan, put_plan_at, put_tce_plan}
-use Rattle.dma_window.proofs.BusyCalls.{goes, removal_by, removal_not_taken, busy_is_taken}
+use Rattle.dma_window.proofs.BusyCalls.{removal_by, removal_not_taken, busy_is_taken}
+use Rattle.entry_model.proofs.Trials.{not_worn}
 
 -- ---- the entry between the two steps
 emptied_by :
     (valid last : Bool) (s next : State)
     → s.valid ≡ valid
     → next.valid ≡ false
-    → goes (removal_by (valid && true) last s next).0 ≡ true
+    → not_worn (removal_by (valid && true) last s next).0 ≡ true
     → (removal_by (valid && true) last s next).1.valid ≡ false
 emptied_by true true s next v none on = cc
 emptied_by true false s next v none on = none
 emptied_by false last s next v none on = v
 
--- After a removal that goes on the entry is empty.
+-- After a removal that not_worn on the entry is empty.
 emptied :
     (s : State)
-    → goes (reply_of s (ops.Remove no_test)).0 ≡ true
+    → not_worn (reply_of s (ops.Remove no_test)).0 ≡ true
     → (reply_of s (ops.Remove no_test)).1.valid ≡ false
 emptied s =
     emptied_by s.valid (s.stamp == 0xFFFFFFFF) s (record (empty_state 0) { stamp = s.stamp + 1 })
@@ -43,7 +44,7 @@ emptied s =
 -- Also where the states have no such entry.
 entry_emptied :
     (states : List State) (entry : ℕ)
-    → goes (receipt_at states (call (ops.Remove no_test) entry)).answer ≡ true
+    → not_worn (receipt_at states (call (ops.Remove no_test) entry)).answer ≡ true
     →
     (state_at (states_after states (receipt_at states (call (ops.Remove no_test) entry)))
     entry).valid
@@ -123,7 +124,7 @@ clear_alone : (entry : ℕ) (states : List State) → IsNeverBusy (clear_plan en
 unfolding plan_run trial_run
 clear_alone entry states e =
     let r = receipt_at states (call (ops.Remove no_test) entry) in
-    removal_not_taken r refl (one_busy (goes r.answer) r (states_after states r) e)
+    removal_not_taken r refl (one_busy (not_worn r.answer) r (states_after states r) e)
 
 replace_alone :
     (entry dword0 dword1 : ℕ) (states : List State)
@@ -133,7 +134,7 @@ replace_alone entry dword0 dword1 states e =
     let r = receipt_at states (call (ops.Remove no_test) entry) in
     let mid = states_after states r in
     let x = receipt_at mid (call (ops.Enter dword0 dword1) entry) in
-    elim (two_busy (goes r.answer) (goes x.answer) r x mid (states_after mid x) e) [
+    elim (two_busy (not_worn r.answer) (not_worn x.answer) r x mid (states_after mid x) e) [
       | inl removal ↦ removal_not_taken r refl removal
       | inr entering ↦ empty_not_taken (state_at mid entry) dword0 dword1
           (entry_emptied states entry entering.0) entering.1

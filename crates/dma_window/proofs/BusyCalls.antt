@@ -1,5 +1,5 @@
 -- When H_PUT_TCE answers H_BUSY.
-use Rattle.std.proofs.Common.{◌≡◌, ℕ, ◌↔◌, inl, inr, List, [], ◌∷◌, Bool, true, false, not, Option, Some, None, refl, ap, sym, ◌∙◌}
+use Rattle.std.proofs.Common.{◌≡◌, ℕ, ◌↔◌, inl, inr, List, [], ◌∷◌, Bool, true, false, Option, Some, None, refl, ap, sym, ◌∙◌}
 use Rattle.std.specs.Prelude.{◌||◌, ◌+◌, ◌==◌, if◌then◌else◌, MatchBool}
 use Rattle.std.specs.Option.{option_map_or}
 use Rattle.frame_grants.specs.declared.grant.Grant.{Grant}
@@ -12,20 +12,23 @@ use Rattle.entry_model.specs.declared.operation.Op.TheVariants as ops
 use Rattle.entry_model.specs.declared.receipt.Receipt.{Receipt}
 use Rattle.entry_model.specs.declared.hreply.HReply.{HReply}
 use Rattle.entry_model.specs.State.{State, empty_state}
-use Rattle.entry_model.specs.Reply.{reply_of, is_found}
-use Rattle.entry_model.specs.Receipt.{is_worn}
+use Rattle.entry_model.specs.Reply.{reply_of, is_found, no_test}
 use Rattle.entry_model.specs.Trial.{IsTrial, IsReplyOf, call, plan_of_code}
 use Rattle.bus_window.specs.Windows.{BusWindow, entry_at}
 use Rattle.dma_window.specs.Pages.{is_ram}
-use Rattle.dma_window.specs.Entries.{address_of, permits, first_word, second_word, no_test}
+use Rattle.dma_window.specs.Entries.{address_of, permits, first_word, second_word}
 use Rattle.dma_window.specs.Calls.{code_of, code_by_last, clear_plan, replace_plan, put_plan_at, put_tce_plan}
 use Rattle.dma_window.specs.Laws.{HasTaken}
+use Rattle.basics.proofs.Bools.{no_more}
+use Rattle.entry_model.proofs.Trials.{not_worn}
 
 -- ---- answers
 pub busy_is_taken : (answer : Answer) → code_of answer ≡ rc.Busy → answer ≡ answers.Taken
 busy_is_taken answers.Taken e = refl
 busy_is_taken other e = cc
 
+-- What a removal answers, and the state that it leaves of s: by whether the entry is found, and
+-- whether its stamp is at its last value.
 abbrev pub removal_by : Bool → Bool → State → State → Answer × State
 removal_by found worn s next =
     if found then (if worn then (answers.Worn, s) else (answers.Removed, next)) else
@@ -46,30 +49,23 @@ removal_not_taken r op taken =
     (record (empty_state 0) { stamp = r.before.stamp + 1 }) told
 
 -- ---- trials
-abbrev pub goes : Answer → Bool
-goes answer = not (is_worn answer)
-
 abbrev BusyWhere : List Receipt → Type 0
 BusyWhere rs = (code_by_last rs ≡ rc.Busy) ↔ HasTaken rs
 
-no_more : (b : Bool) (x : Receipt) (xs : List Receipt) → MatchBool b ⊥ ((x ∷ xs) ≡ []) → ⊥
-no_more true x xs h = h
-no_more false x xs h = cc
-
 clear_busy :
-    (entry : ℕ) (rs : List Receipt) → IsTrial goes (clear_plan entry).calls rs → BusyWhere rs
+    (entry : ℕ) (rs : List Receipt) → IsTrial not_worn (clear_plan entry).calls rs → BusyWhere rs
 clear_busy entry [] h = absurd h
 clear_busy entry (r ∷ []) h = (
   (λ e. absurd (removal_not_taken r h.0.op (busy_is_taken r.answer e))),
   (λ t.
       elim t [ inl taken ↦ absurd (removal_not_taken r h.0.op taken) | inr none ↦ absurd none ]),
 )
-clear_busy entry (r ∷ x ∷ rs) h = absurd (no_more (goes r.answer) x rs h.1)
+clear_busy entry (r ∷ x ∷ rs) h = absurd (no_more (not_worn r.answer) x rs h.1)
 
 second_busy :
     (b : Bool) (entry : ℕ) (op : Op) (r x : Receipt) (rs : List Receipt)
     → r.op ≡ ops.Remove no_test
-    → MatchBool b (IsTrial goes (call op entry ∷ []) (x ∷ rs)) ((x ∷ rs) ≡ [])
+    → MatchBool b (IsTrial not_worn (call op entry ∷ []) (x ∷ rs)) ((x ∷ rs) ≡ [])
     → BusyWhere (r ∷ x ∷ rs)
 second_busy false entry op r x rs removal h = cc
 second_busy true entry op r x [] removal h = (
@@ -79,11 +75,11 @@ second_busy true entry op r x [] removal h = (
     | inr rest ↦ elim rest [ inl taken ↦ ap code_of taken | inr none ↦ absurd none ]
   ]),
 )
-second_busy true entry op r x (y ∷ ys) removal h = absurd (no_more (goes x.answer) y ys h.1)
+second_busy true entry op r x (y ∷ ys) removal h = absurd (no_more (not_worn x.answer) y ys h.1)
 
 replace_busy :
     (entry : ℕ) (op : Op) (rs : List Receipt)
-    → IsTrial goes (replace_plan entry op).calls rs
+    → IsTrial not_worn (replace_plan entry op).calls rs
     → BusyWhere rs
 replace_busy entry op [] h = absurd h
 replace_busy entry op (r ∷ []) h = (
@@ -91,7 +87,7 @@ replace_busy entry op (r ∷ []) h = (
   (λ t.
       elim t [ inl taken ↦ absurd (removal_not_taken r h.0.op taken) | inr none ↦ absurd none ]),
 )
-replace_busy entry op (r ∷ x ∷ rs) h = second_busy (goes r.answer) entry op r x rs h.0.op h.1
+replace_busy entry op (r ∷ x ∷ rs) h = second_busy (not_worn r.answer) entry op r x rs h.0.op h.1
 
 -- ---- calls
 abbrev AnswersBusy : HReply → Type 0

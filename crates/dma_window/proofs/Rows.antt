@@ -8,12 +8,12 @@ use Rattle.entry_model.specs.declared.operation.Answer.{Answer}
 use Rattle.entry_model.specs.declared.operation.Answer.TheVariants.{Removed, NotFound, Entered}
 use Rattle.entry_model.specs.declared.operation.Op.TheVariants.{Enter, Remove}
 use Rattle.entry_model.specs.declared.receipt.Receipt.{Receipt}
-use Rattle.entry_model.specs.Reply.{entered_state}
+use Rattle.entry_model.specs.Reply.{entered_state, no_test}
 use Rattle.entry_model.specs.State.{State, empty_state}
 use Rattle.entry_model.specs.Trial.{call, plan_run, trial_run}
 use Rattle.entry_model.specs.declared.device_reply.DeviceOutcome.TheVariants.{At, Denied, Ungranted}
 use Rattle.dma_window.specs.Pages.{is_ram}
-use Rattle.dma_window.specs.Entries.{first_word, second_word, tce_of, no_test}
+use Rattle.dma_window.specs.Entries.{first_word, second_word, tce_of}
 use Rattle.dma_window.specs.Calls.{put_tce_plan}
 use Rattle.dma_window.specs.Devices.{outcome_by}
 

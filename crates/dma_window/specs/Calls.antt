@@ -14,7 +14,8 @@ use Rattle.entry_model.specs.Receipt.{is_worn}
 use Rattle.entry_model.specs.Trial.{Plan, call, plan_of_code}
 use Rattle.bus_window.specs.Windows.{BusWindow, entry_at}
 use Rattle.dma_window.specs.Pages.{is_ram}
-use Rattle.dma_window.specs.Entries.{address_of, permits, first_word, second_word, tce_of, no_test}
+use Rattle.dma_window.specs.Entries.{address_of, permits, first_word, second_word, tce_of}
+use Rattle.entry_model.specs.Reply.{no_test}
 
 -- ---- replies
 -- Worn gives H_HARDWARE, Taken gives H_BUSY, and any other answer H_SUCCESS.

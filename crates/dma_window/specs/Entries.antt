@@ -1,7 +1,6 @@
 -- Translation control entries: the word that the guest gives, and how an entry keeps it.
-use Rattle.std.specs.Prelude.{ℕ, ◌+◌, ◌==◌, Bool, true, false, None, bit_and, bit_or, if◌then◌else◌}
+use Rattle.std.specs.Prelude.{ℕ, ◌+◌, ◌==◌, Bool, true, false, bit_and, bit_or, if◌then◌else◌}
 use Rattle.entry_model.specs.State.{State}
-use Rattle.entry_model.specs.declared.operation.Test.{Test}
 
 -- ---- the word
 -- The logical address of the page.
@@ -35,7 +34,3 @@ tce_of s =
     (bit_or (address_of s.dword1) (if bit_and s.dword0 0x08 == 0x08 then 1 else 0))
     (if bit_and s.dword0 0x10 == 0x10 then 2 else 0)
     else 0
-
--- Any valid entry passes it.
-abbrev pub no_test : Test
-no_test = record { avpn = None; andcond = None }

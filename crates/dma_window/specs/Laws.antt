@@ -12,11 +12,11 @@ use Rattle.entry_model.specs.declared.operation.Op.{Op}
 use Rattle.entry_model.specs.declared.operation.Op.TheVariants.{Enter, Remove}
 use Rattle.entry_model.specs.declared.receipt.Receipt.{Receipt}
 use Rattle.entry_model.specs.declared.hreply.HReply.{HReply}
-use Rattle.entry_model.specs.Reply.{entered_state}
+use Rattle.entry_model.specs.Reply.{entered_state, no_test}
 use Rattle.entry_model.specs.Trial.{Call, IsReplyOf, plan_run}
 use Rattle.entry_model.specs.declared.device_reply.DeviceOutcome.TheVariants.{At, Ungranted}
 use Rattle.dma_window.specs.Pages.{is_ram}
-use Rattle.dma_window.specs.Entries.{address_of, permits, first_word, second_word, tce_of, no_test}
+use Rattle.dma_window.specs.Entries.{address_of, permits, first_word, second_word, tce_of}
 use Rattle.dma_window.specs.Calls.{put_tce_plan}
 use Rattle.dma_window.specs.Devices.{logical_of, outcome_by}
 

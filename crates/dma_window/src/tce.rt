@@ -1,11 +1,12 @@
 ghost use Rattle.std.specs.Prelude.{◌≡◌, ◌+◌};
 ghost use Rattle.entry_model.specs.Receipt.{IsNormal};
+ghost use Rattle.entry_model.specs.Reply.{no_test};
 ghost use Rattle.entry_model.specs.declared.operation.Op.TheVariants.{Enter, Remove};
 ghost use Rattle.dma_window.specs.Entries as entries;
 ghost use Rattle.dma_window.specs.Pages.{is_ram};
 
 use bus_window::PAGE_BYTES;
-use entry_model::{EntryState, Op, Test};
+use entry_model::{EntryState, NO_TEST, Op};
 use frame_grants::Kind;
 use hpte_fields::VALID;
 use page_grants::GrantedMemory;
@@ -26,12 +27,6 @@ const KEPT_WRITE: u64 = 0x10;
 
 /// M, in doubleword 1: the page is coherent.
 const COHERENT: u64 = 0x10;
-
-/// Any valid entry passes it.
-const NO_TEST: Test = Test {
-    avpn: None,
-    andcond: None,
-};
 
 /// The logical address of a TCE.
 pub fn address(tce: u64) -> u64
@@ -71,7 +66,7 @@ pub fn tce_of(state: &EntryState) -> u64
 
 /// What empties an entry.
 pub fn removal() -> Op
-    ensures op { result ≡ Remove entries.no_test }
+    ensures op { result ≡ Remove no_test }
     ensures normal { IsNormal result }
 {
     Op::Remove { test: NO_TEST }

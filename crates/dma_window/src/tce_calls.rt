@@ -33,7 +33,7 @@ fn code_by_last(receipts: &[Receipt]) -> Rc
 }
 
 /// What the receipts of a call on TCEs tell.
-fn told(plan: &TcePlan, receipts: &[Receipt]) -> Registers
+fn tce_registers(plan: &TcePlan, receipts: &[Receipt]) -> Registers
     requires { IsTrial (plan_of plan.now).goes_on (plan_of plan.now).calls receipts.now }
     ensures { (result.rc, result.words) ≡ (plan_of plan.now).told receipts.now }
 {
@@ -65,7 +65,7 @@ pub fn run_tce_plan<T: EntryStore>(
     // No store is so small that it lacks an entry of a window.
     let _order = store.order();
     let _ending = make_trial(store, plan, receipts);
-    told(plan, receipts.as_slice())
+    tce_registers(plan, receipts.as_slice())
 }
 
 /// Makes a call on the TCEs of a window, and gives its whole reply.

@@ -1,7 +1,7 @@
 -- Each atomic step of an access keeps the rule.
 use Rattle.std.specs.Prelude.{slice_get}
 use Rattle.std.proofs.Common.{◌≡◌, ◌≢◌, ℕ, ◌+◌, ◌*◌, ◌<◌, ◌^◌, ◌&&◌, not, Bool, true, false, List, ◌∷◌, length, set, get_or, length-set, inl, inr, ⊎_elim, refl, sym, ap, ◌∙◌, subst, arith, eqb, Some, None}
-use Rattle.std.proofs.lemmas.Bool.{false≢true, and_parts, eqb-true}
+use Rattle.std.proofs.lemmas.Bool.{false≢true, and_parts, eqb-true, not-true}
 use mathlib.Core.Option.{some}
 use Rattle.atomic_table.specs.Table.{State as TableState}
 use Rattle.atomic_table.proofs.Lists.{exchanged}
@@ -21,16 +21,16 @@ use Rattle.lock_core.specs.declared.step.Step.{Step}
 use Rattle.lock_core.specs.declared.step.Step.TheVariants.{Look, LoadData, Mark}
 use Rattle.lock_core.specs.declared.step_result.StepResult.{StepResult}
 use Rattle.lock_core.specs.Words.{next_state, is_read, changes, receipt, is_noted, is_still}
-use Rattle.lock_core.specs.Machine.{Machine, words_seen}
+use Rattle.lock_core.specs.Machine.{Machine, words_seen, HoldsEntry}
 use Rattle.lock_core.specs.Steps.{actor_after, fits, names_entry, result_without_receipt, result_with_receipt, new_doing, with_noted, with_loaded, marked_entry}
 use Rattle.lock_core.proofs.Moves.{Change, put_both}
-use Rattle.lock_core.proofs.Kept.{IsOn, LookedOk, IsFresh, PhaseOk}
-use Rattle.lock_core.proofs.Noted.{not_is, not_true, noted_same}
+use Rattle.lock_core.proofs.Kept.{IsOn, LookedOk, IsFresh, PhaseOk, looked_same}
+use Rattle.lock_core.proofs.Noted.{not_true, noted_same}
 use Rattle.entry_lock.specs.declared.rule.View.{View}
 use Rattle.entry_lock.specs.declared.rule.Opening.{Opening}
 use Rattle.entry_lock.specs.Layout.{word_of, control_place, data_place}
 use Rattle.entry_lock.specs.Views.{states_of}
-use Rattle.entry_lock.specs.Rule.{HoldsEntry, WordsShow, ShowsSteps, machine_after}
+use Rattle.entry_lock.specs.Rule.{WordsShow, ShowsSteps, machine_after}
 use Rattle.entry_lock.specs.StepViews.{view_with_step, view_in_phase, view_with_receipt, view_with_count, doing_with_word}
 use Rattle.entry_lock.specs.AccessSteps.{LookTells, LookedLoadTells, AreAlike, SecondLookTells, MarkTells}
 use Rattle.entry_lock.specs.CallSteps.{leaves_state}
@@ -40,14 +40,11 @@ use Rattle.entry_lock.proofs.MachineMoves.{Moves, in_table_is}
 use Rattle.entry_lock.proofs.Places.{control_set, control_else, data_else, read_shows, data_found}
 use Rattle.entry_lock.proofs.SolePass.{unlocked}
 use Rattle.entry_lock.proofs.AlikeDoings.{noted_self, alike_next, alike_changes, alike_receipt, alike_still, later_receipt}
-use Rattle.entry_lock.proofs.Turns.{Takes, kept, me, entry_there, has_number, turn_shown, turn_ahead, change_of, moves_of}
+use Rattle.entry_lock.proofs.PassSteps.{Takes, kept, me, entry_there, has_number, turn_shown, turn_ahead, change_of, moves_of}
 use Rattle.entry_lock.proofs.StoredWords.{loaded_is}
 use Rattle.entry_lock.proofs.StepKinds as kinds
 use lib.ListN.{get_elem?}
 use prog.Atomic.{either}
-
-looked_same : (d d' : Doing) → Looked d ≡ Looked d' → d ≡ d'
-looked_same d d' h = cc
 
 loaded_noted : (second : Bool) (x : Entry) (d : Doing) → (with_loaded second x d).noted ≡ d.noted
 loaded_noted true x d = refl
@@ -60,7 +57,7 @@ unfolding is_still
 still_parts d k h =
     let p = and_parts _ _ h in
     let q = and_parts _ _ p.0 in
-    (not_is k.shut q.1, eqb-true k.stamp d.noted.stamp p.1)
+    (not-true k.shut q.1, eqb-true k.stamp d.noted.stamp p.1)
 
 -- A receipt on a state that stays.
 left_same : (r : Receipt) (p : State) → r.before ≡ p → after_of r ≡ p → leaves_state r ≡ true
@@ -270,6 +267,7 @@ module _ (key : Opening) (s : TableState ℕ View) (steps : List (ℕ × Step))
     module _ (a d : Doing) (inside : d.entry < length (states_of key))
         (is : v.actor.phase ≡ Looked d)
         (al : AreAlike a d) (read : is_read a ≡ true) where
+      -- The machine's entry that the operation is on.
       abbrev pub X : Entry
       X = (entry_there key s steps h id n ns v at mine d.entry inside).0
 

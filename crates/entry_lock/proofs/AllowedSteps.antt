@@ -25,10 +25,11 @@ use Rattle.entry_lock.proofs.ViewLists.{total_one}
 use Rattle.entry_lock.proofs.Places.{word_read}
 use Rattle.entry_model.specs.declared.line.Line.{Line}
 use Rattle.entry_lock.proofs.LineOperations.{known_step, known_again_step, known_mark_step}
-use Rattle.entry_lock.proofs.Turns.{numbered}
+use Rattle.entry_lock.proofs.PassSteps.{numbered}
 use Rattle.entry_lock.proofs.HolderOperations.{lock_step, load_step, shut_step, store_step, settle_may, settle_step, release_step}
 use Rattle.entry_lock.proofs.AccessOperations.{look_step, looked_load_step, look_again_step, mark_step}
 use prog.Atomic.{either}
+use Rattle.lock_core.proofs.Kept.{held_same, shut_same, looked_same}
 
 same_entry : (e e' : ℕ) → control_place e ≡ control_place e' → e ≡ e'
 same_entry e e' h = omega arith
@@ -38,15 +39,6 @@ same_half e false false h = refl
 same_half e false true h = absurd (omega arith)
 same_half e true false h = absurd (omega arith)
 same_half e true true h = refl
-
-held_same : (d d' : Doing) → Held d ≡ Held d' → d ≡ d'
-held_same d d' h = cc
-
-shut_same : (d d' : Doing) → HeldShut d ≡ HeldShut d' → d ≡ d'
-shut_same d d' h = cc
-
-looked_same : (d d' : Doing) → Looked d ≡ Looked d' → d ≡ d'
-looked_same d d' h = cc
 
 -- ---- hypervisor calls
 pub lock_allowed :

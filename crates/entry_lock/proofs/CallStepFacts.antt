@@ -1,7 +1,7 @@
 -- What the steps of a call follow from.
 use Rattle.std.specs.Prelude.{MatchBool, Result, Ok, Err, IfErr}
-use Rattle.std.proofs.Common.{◌≡◌, ◌≢◌, ℕ, ◌<◌, ◌==◌, ◌^◌, not, Bool, true, false, List, [], ◌∷◌, ◌++◌, refl, sym, ap, ◌∙◌, subst, ne_eqb}
-use Rattle.std.proofs.lemmas.Bool.{false≢true}
+use Rattle.std.proofs.Common.{◌≡◌, ◌≢◌, ℕ, ◌<◌, ◌==◌, ◌^◌, Bool, true, false, List, [], ◌∷◌, ◌++◌, refl, sym, ap, ◌∙◌, subst, ne_eqb}
+use Rattle.std.proofs.lemmas.Bool.{not-false, not-true}
 use Rattle.entry_model.specs.declared.operation.Op.{Op}
 use Rattle.entry_model.specs.declared.receipt.Receipt.{Receipt}
 use Rattle.entry_model.specs.Receipt.{after_of, is_access}
@@ -29,30 +29,17 @@ after_append taken (x ∷ xs) ys = after_append (x ∷ taken) xs ys
 took_both : (u v w : View) (xs ys : List Step) → Took xs u v → Took ys v w → Took (xs ++ ys) u w
 took_both u v w xs ys a b = b ∙ ap (λ t. after_steps t ys) a ∙ sym (after_append u.taken xs ys)
 
--- ---- receipts
-not_false : (b : Bool) → not b ≡ false → b ≡ true
-not_false true h = refl
-not_false false h = absurd (false≢true (sym h))
-
-not_true' : (b : Bool) → not b ≡ true → b ≡ false
-not_true' true h = absurd (false≢true h)
-not_true' false h = refl
-
 pub leaves_if : (d : Doing) → changes d ≡ false → leaves_state (receipt d) ≡ true
 unfolding receipt changes next_state
-leaves_if d h = not_false _ h
+leaves_if d h = not-false _ h
 
 pub changes_if : (d : Doing) → changes d ≡ true → leaves_state (receipt d) ≡ false
 unfolding receipt changes next_state
-changes_if d h = not_true' _ h
+changes_if d h = not-true _ h
 
 pub valid_before : (d : Doing) → (receipt d).before.valid ≡ d.noted.valid
 unfolding receipt noted_state
 valid_before d = refl
-
-pub after_is : (d : Doing) → after_of (receipt d) ≡ next_state d
-unfolding receipt next_state
-after_is d = refl
 
 -- The receipt r is that of the operation d by the word that was found.
 module _ (d : Doing) (k : Control) (other : is_access d.op ≡ false)

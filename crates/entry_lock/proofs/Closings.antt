@@ -17,7 +17,7 @@ use Rattle.lock_core.specs.declared.entry.Entry.{Entry}
 use Rattle.lock_core.specs.declared.phase.Phase.TheVariants.{Idle}
 use Rattle.lock_core.specs.declared.step.Step.{Step}
 use Rattle.lock_core.specs.Words.{state_of}
-use Rattle.lock_core.specs.Machine.{Actor, Machine, opening_machine}
+use Rattle.lock_core.specs.Machine.{Actor, Machine, opening_machine, HoldsEntry}
 use Rattle.lock_core.specs.Runs.{run, receipts_of}
 use Rattle.lock_core.specs.Laws.{published_state, sighting_by, HasSeen}
 use Rattle.lock_core.proofs.Noted.{not_true}
@@ -26,7 +26,7 @@ use Rattle.entry_lock.specs.declared.rule.View.{View}
 use Rattle.entry_lock.specs.declared.rule.Opening.{Opening}
 use Rattle.entry_lock.specs.Layout.{control_of_word, control_place, entry_state, entry_states}
 use Rattle.entry_lock.specs.Views.{states_of, first_number}
-use Rattle.entry_lock.specs.Rule.{IsHead, HoldsEntry, ShowsSteps, ShowsRun, machine_after}
+use Rattle.entry_lock.specs.Rule.{IsHead, ShowsSteps, ShowsRun, machine_after}
 use Rattle.entry_lock.specs.OwnSteps.{steps_by, AreAllowed}
 use Rattle.entry_lock.specs.SeenLines.{IsSeen}
 use Rattle.entry_lock.specs.PassInvariants.{IsActing}
@@ -34,7 +34,7 @@ use Rattle.entry_lock.specs.Closing.{Closes}
 use Rattle.entry_lock.proofs.Bits.{control_is}
 use Rattle.entry_lock.proofs.MachineMoves.{actor_is, entry_is}
 use Rattle.entry_lock.proofs.SolePass.{made_all, unlocked}
-use Rattle.entry_lock.proofs.Turns.{pair_high, kept, me, entry_there, has_number, numbered}
+use Rattle.entry_lock.proofs.PassSteps.{pair_high, kept, me, entry_there, has_number, numbered}
 use lib.ListN.{get_elem?}
 
 -- ---- lists

@@ -13,13 +13,13 @@ use Rattle.lock_core.specs.declared.doing.Doing.{Doing}
 use Rattle.lock_core.specs.declared.entry.Entry.{Entry}
 use Rattle.lock_core.specs.declared.phase.Phase.{Phase}
 use Rattle.lock_core.specs.declared.phase.Phase.TheVariants.{HeldShut, Looked}
-use Rattle.lock_core.specs.Machine.{Actor, Machine}
+use Rattle.lock_core.specs.Machine.{Actor, Machine, HoldsEntry}
 use Rattle.lock_core.proofs.Lists.{at_set, set_found, set_else, same_at}
 use Rattle.lock_core.proofs.Moves.{put_both}
 use Rattle.entry_lock.specs.declared.rule.View.{View}
 use Rattle.entry_lock.specs.declared.rule.Opening.{Opening}
 use Rattle.entry_lock.specs.Views.{occurrences, states_of}
-use Rattle.entry_lock.specs.Rule.{ActsAs, IsHead, HoldsEntry, WordsShow, AreStored, FrontFits, Shows}
+use Rattle.entry_lock.specs.Rule.{ActsAs, IsHead, WordsShow, AreStored, FrontFits, Shows}
 use Rattle.entry_lock.proofs.ViewLists.{set_view, same_view, total_two, total_same, times_head, head_at}
 use lib.ListN.{get_elem?}
 
@@ -44,6 +44,8 @@ other_phase p q e x front free ok =
     inr (t.0, t.1, free)) ok
 
 -- ---- the whole
+-- What a step that turns the entry x into y and its pass's view v into w has to leave: words that
+-- show y and the other entries as before, and views and fronts that fit them.
 pub record Frame (key : Opening) (s : TableState ℕ View) (id e : ℕ) (v w : View) (x y : Entry)
     (words : List ℕ) :
     Type 0 where

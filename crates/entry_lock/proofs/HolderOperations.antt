@@ -18,15 +18,15 @@ use Rattle.lock_core.specs.declared.step.Step.{Step}
 use Rattle.lock_core.specs.declared.step.Step.TheVariants.{Lock, LoadData, Shut, StoreData, Settle, Release}
 use Rattle.lock_core.specs.declared.step_result.StepResult.{StepResult}
 use Rattle.lock_core.specs.Words.{next_state, is_read, changes, receipt, settled_word, is_stored}
-use Rattle.lock_core.specs.Machine.{Machine, entry_at}
+use Rattle.lock_core.specs.Machine.{Machine, entry_at, HoldsEntry}
 use Rattle.lock_core.specs.Steps.{actor_after, result_without_receipt, result_with_receipt, new_doing, with_noted, with_loaded, with_stored, locked_entry, shut_entry, settled_entry}
-use Rattle.lock_core.proofs.Kept.{IsOn, HeldOk, ShutOk, PhaseOk}
+use Rattle.lock_core.proofs.Kept.{IsOn, HeldOk, ShutOk, PhaseOk, shut_same}
 use Rattle.lock_core.proofs.Noted.{raised, not_true, noted_stamp}
 use Rattle.entry_lock.specs.declared.rule.View.{View}
 use Rattle.entry_lock.specs.declared.rule.Opening.{Opening}
 use Rattle.entry_lock.specs.Layout.{word_of, Means, control_place, data_place, doubleword}
 use Rattle.entry_lock.specs.Views.{states_of}
-use Rattle.entry_lock.specs.Rule.{HoldsEntry, AreStored, ShowsSteps, machine_after}
+use Rattle.entry_lock.specs.Rule.{AreStored, ShowsSteps, machine_after}
 use Rattle.entry_lock.specs.StepViews.{view_with_step, view_in_phase, view_with_receipt, view_with_store, view_with_count, doing_with_word}
 use Rattle.entry_lock.specs.HolderSteps.{LockTells, LoadTells, ShutTells, StoreTells, SettleTells, ReleaseTells}
 use Rattle.entry_lock.proofs.Bits.{lock_word, unlock_word, shut_word}
@@ -34,10 +34,11 @@ use Rattle.entry_lock.proofs.ViewLists.{bool_is}
 use Rattle.entry_lock.proofs.MachineMoves.{in_table_is, entry_is}
 use Rattle.entry_lock.proofs.Places.{control_set, control_else, data_set, data_else, read_shows, data_found, data_before}
 use Rattle.entry_lock.proofs.SolePass.{unlocked}
-use Rattle.entry_lock.proofs.Turns.{Takes, kept, me, entry_there, has_number, turn_shown, turn_ahead, change_of, moves_of}
+use Rattle.entry_lock.proofs.PassSteps.{Takes, kept, me, entry_there, has_number, turn_shown, turn_ahead, change_of, moves_of}
 use Rattle.entry_lock.proofs.StepKinds as kinds
 use lib.ListN.{get_elem?}
-use Rattle.entry_lock.proofs.StoredWords.{shut_same, loaded_is, stored_control, stored_published, stored_data, stored_other, stored_marks, stored_actor, stored_numbers, stored_taken, stored_passes, stored_opening, stored_fronts}
+use Rattle.entry_lock.proofs.StoredWords.{loaded_is, stored_data, stored_other, stored_marks, stored_actor, stored_numbers, stored_taken, stored_passes, stored_opening, stored_fronts}
+use Rattle.lock_core.proofs.Steps.{stored_published, stored_control}
 
 module _ (key : Opening) (s : TableState ℕ View) (steps : List (ℕ × Step))
     (h : ShowsSteps key steps s.words s.views) (id n : ℕ) (ns : List ℕ) (v : View)

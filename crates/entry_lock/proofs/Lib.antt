@@ -3,7 +3,7 @@ mod ViewLists
 mod Frame
 mod TakenSteps
 mod MachineMoves
-mod Turns
+mod PassSteps
 mod StepKinds
 mod Places
 mod SolePass
@@ -11,12 +11,12 @@ mod StoredWords
 mod HolderOperations
 mod AlikeDoings
 mod AccessOperations
-mod AllowedSteps
+pub mod AllowedSteps
 mod ViewChanges
 mod SplitsAndJoins
 mod Closings
 mod Openings
-mod LineFronts
+pub mod LineFronts
 mod LineOperations
 mod CallStepFacts
 mod LineFacts

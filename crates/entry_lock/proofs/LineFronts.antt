@@ -14,13 +14,13 @@ use Rattle.lock_core.specs.declared.entry.Entry.{Entry}
 use Rattle.lock_core.specs.declared.phase.Phase.TheVariants.{Idle}
 use Rattle.lock_core.specs.declared.sighting.Sighting.{Sighting}
 use Rattle.lock_core.specs.Words.{state_of, is_still}
-use Rattle.lock_core.specs.Machine.{words_in}
+use Rattle.lock_core.specs.Machine.{words_in, HoldsEntry}
 use Rattle.lock_core.proofs.Lists.{some_same, none_some}
-use Rattle.entry_lock.specs.Rule.{HoldsEntry, FrontFits}
+use Rattle.entry_lock.specs.Rule.{FrontFits}
 use Rattle.entry_lock.specs.StepViews.{raised_fronts}
 use Rattle.entry_lock.specs.LineSteps.{is_gone_from}
 use Rattle.entry_lock.proofs.ViewLists.{bool_is}
-use Rattle.entry_lock.proofs.Turns.{pair_low, pair_high}
+use Rattle.entry_lock.proofs.PassSteps.{pair_low, pair_high}
 
 -- ---- fronts that rise
 pub raised_low :

@@ -23,7 +23,7 @@ use Rattle.lock_core.specs.declared.phase.Phase.TheVariants.{Idle, HeldShut, Loo
 use Rattle.lock_core.specs.declared.sighting.Sighting.{Sighting}
 use Rattle.lock_core.specs.declared.step.Step.{Step}
 use Rattle.lock_core.specs.Words.{without_bits, is_read, changes, next_state, is_still}
-use Rattle.lock_core.specs.Machine.{Actor, Machine, is_at, words_in, words_at, words_seen_in, words_seen, opening_at}
+use Rattle.lock_core.specs.Machine.{Actor, Machine, is_at, words_in, words_at, words_seen_in, words_seen, opening_at, HoldsEntry}
 use Rattle.lock_core.specs.Steps.{new_doing}
 use Rattle.lock_core.specs.Laws.{sighting_by}
 use Rattle.lock_core.proofs.Kept.{IsFresh}
@@ -33,7 +33,7 @@ use Rattle.entry_lock.specs.declared.rule.View.{View}
 use Rattle.entry_lock.specs.declared.rule.Opening.{Opening}
 use Rattle.entry_lock.specs.Layout.{word_of, Means, control_place}
 use Rattle.entry_lock.specs.Views.{states_of}
-use Rattle.entry_lock.specs.Rule.{HoldsEntry, FrontFits, Shows, ShowsSteps, ShowsRun, machine_after}
+use Rattle.entry_lock.specs.Rule.{FrontFits, Shows, ShowsSteps, ShowsRun, machine_after}
 use Rattle.entry_lock.specs.StepViews.{view_with_step, view_in_phase, view_with_count, raised_fronts, view_past}
 use Rattle.entry_lock.specs.AccessSteps.{AreAlike}
 use Rattle.entry_lock.specs.SeenLines.{IsSeen}
@@ -42,7 +42,7 @@ use Rattle.entry_lock.proofs.Bits.{same_word}
 use Rattle.entry_lock.proofs.ViewLists.{set_view, bool_is}
 use Rattle.entry_lock.proofs.Places.{word_read}
 use Rattle.entry_lock.proofs.Frame.{Fronts, other_phase, Frame, shows_put}
-use Rattle.entry_lock.proofs.Turns.{kept, me, entry_there, has_number}
+use Rattle.entry_lock.proofs.PassSteps.{kept, me, entry_there, has_number}
 use Rattle.entry_lock.proofs.TakenSteps.{own_still}
 use Rattle.lock_core.specs.declared.step.Step.TheVariants.{Look, Mark}
 use Rattle.entry_lock.proofs.AccessOperations.{look_open_step, look_again_step, mark_step}

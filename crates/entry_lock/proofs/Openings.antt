@@ -20,9 +20,10 @@ use Rattle.entry_lock.specs.Layout.{word_of, entry_words}
 use Rattle.entry_lock.specs.Views.{occurrences, states_of, numbers_from, first_view}
 use Rattle.entry_lock.specs.Rule.{Shows, ShowsSteps, machine_after, ActsAs, IsHead}
 use Rattle.entry_lock.proofs.ViewLists.{one, times_cons, bool_is}
-use Rattle.entry_lock.proofs.Turns.{there}
+use Rattle.entry_lock.proofs.PassSteps.{there}
 use lib.ListN.{length-replicate}
 use lib.ListN.{get_elem?}
+use Rattle.lock_core.proofs.FrontsKept.{opening_front}
 
 pub length_words : (states : List State) → length (entry_words states) ≡ 3 * length states
 length_words [] = refl
@@ -148,14 +149,6 @@ only_view : (v u : View) (j : ℕ) → get_elem? (v ∷ []) j ≡ some u → v �
 only_view v u zero h = some-injective v u h
 only_view v u (suc j) h = absurd (some-ne-none u (sym h))
 
-front_there :
-    (states : List State) (e : ℕ) (s : State)
-    → slice_get states e ≡ Some s
-    → front_at (opening_fronts states) e ≡ pair_of s
-front_there [] e s h = absurd (none_some s h)
-front_there (t ∷ rest) zero s h = ap pair_of (some_same t s h)
-front_there (t ∷ rest) (suc e) s h = front_there rest e s h
-
 fronts_length : (states : List State) → length (opening_fronts states) ≡ length states
 fronts_length [] = refl
 fronts_length (s ∷ rest) = ap suc (fronts_length rest)
@@ -196,7 +189,7 @@ machine_opens key fair some_pass =
           (let q = ap (λ (z : View). z.actor.phase) (only_view v u j is) in absurd cc);
       fronts =
           λ j e u x is h.
-          (let o = at_mapped unheld_entry states e x h in let q = front_there states e o.0 o.1 in
+          (let o = at_mapped unheld_entry states e x h in let q = opening_front states e o.0 o.1 in
           let f = ap (λ (z : View). front_at z.fronts e) (only_view v u j is) in
           let w = ap (λ (z : Entry). pair_of z.published) o.2 in
           inl (omega arith));

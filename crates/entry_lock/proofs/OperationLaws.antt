@@ -1,7 +1,7 @@
 -- By which step of the machine the table goes on, at each atomic operation.
-use Rattle.std.specs.Prelude.{is_none, option_map, if◌then◌else◌}
-use Rattle.std.proofs.Common.{◌≡◌, ℕ, ◌<◌, ◌==◌, ◌&&◌, not, Bool, true, false, List, [], ◌∷◌, length, set, get_or, ◌⊎◌, inl, inr, ⊎_elim, refl, sym, ap, ◌∙◌, subst, arith, find}
-use Rattle.std.proofs.lemmas.Bool.{false≢true, and_parts, ltb-true, eqb-true}
+use Rattle.std.specs.Prelude.{if◌then◌else◌}
+use Rattle.std.proofs.Common.{◌≡◌, ℕ, ◌<◌, ◌==◌, ◌&&◌, Bool, true, false, List, [], ◌∷◌, length, set, get_or, ◌⊎◌, inl, inr, ⊎_elim, refl, sym, ap, ◌∙◌, subst, arith}
+use Rattle.std.proofs.lemmas.Bool.{false≢true, and_parts, ltb-true, eqb-true, not-true}
 use mathlib.Core.Logic.{dite}
 use native.Mathlib.Decide.{ℕ_discrete}
 use Rattle.atomic_table.specs.Table.{State as TableState}
@@ -14,16 +14,13 @@ use Rattle.entry_model.specs.declared.operation.Op.{Op}
 use Rattle.entry_model.specs.declared.operation.Op.TheVariants.{Access}
 use Rattle.entry_model.specs.Receipt.{is_access}
 use Rattle.lock_core.specs.declared.doing.Doing.{Doing}
-use Rattle.lock_core.specs.declared.error.CoreError.{CoreError}
-use Rattle.lock_core.specs.declared.error.CoreError.TheVariants.{Actor as ActorFault, Entry as EntryFault, Phase as PhaseFault}
 use Rattle.lock_core.specs.declared.phase.Phase.{Phase}
 use Rattle.lock_core.specs.declared.phase.Phase.TheVariants.{Idle, Held, HeldShut, Looked}
 use Rattle.lock_core.specs.declared.step.Step.{Step}
 use Rattle.lock_core.specs.declared.step.Step.TheVariants.{Lock, Look, LoadData, Shut, StoreData, Settle, Release, Mark}
 use Rattle.lock_core.specs.Words.{is_still, same_access, want_eq, masks_eq}
 use Rattle.lock_core.specs.Machine.{Actor, Machine, actor_at, entry_at, in_table}
-use Rattle.lock_core.specs.Steps.{entry_of, fits, may_act, names_entry, fits_phase, refusal, refusals, is_allowed}
-use Rattle.lock_core.proofs.Noted.{not_is}
+use Rattle.lock_core.specs.Steps.{entry_of, fits, names_entry}
 use Rattle.entry_lock.specs.declared.rule.View.{View}
 use Rattle.entry_lock.specs.declared.rule.Opening.{Opening}
 use Rattle.entry_lock.specs.Layout.{word_of, control_place}
@@ -39,7 +36,7 @@ use Rattle.entry_lock.specs.Operations.{marked_word, operation_of, words_after}
 use Rattle.entry_lock.specs.Laws.{ShowsPass, TablesOpenOnTheirStates, EachOperationIsAStep, LooksThatFindGoneAreNoSteps, SplitsAreSteps, JoinsAreSteps}
 use Rattle.entry_lock.proofs.ViewLists.{bool_is}
 use Rattle.entry_lock.proofs.MachineMoves.{may_is, phase_is, actor_is}
-use Rattle.entry_lock.proofs.Turns.{kept, me}
+use Rattle.entry_lock.proofs.PassSteps.{kept, me}
 use Rattle.entry_lock.proofs.StoredWords.{stored_numbers, stored_taken}
 use Rattle.entry_lock.proofs.HolderOperations.{lock_step, load_step, shut_step, store_step, settle_step, release_step}
 use Rattle.entry_lock.proofs.AccessOperations.{look_step, looked_load_step, look_again_step, mark_step}
@@ -47,27 +44,7 @@ use Rattle.entry_lock.proofs.LineOperations.{raise_shown}
 use Rattle.entry_lock.proofs.SplitsAndJoins.{shows_split, shows_join}
 use Rattle.entry_lock.proofs.Openings.{opens}
 use prog.Atomic.{either}
-
--- ---- what an allowed step says
-three_right :
-    (a b c : Bool)
-    → is_none
-    (option_map (λ (row : Bool × CoreError). row.1)
-    (find (λ (row : Bool × CoreError). row.0)
-    ((not a, ActorFault) ∷ (not b, EntryFault) ∷ (not c, PhaseFault) ∷ [])))
-    ≡ true
-    → (a ≡ true) × (b ≡ true) × (c ≡ true)
-three_right true true true h = (refl, refl, refl)
-three_right true true false h = absurd (false≢true h)
-three_right true false c h = absurd (false≢true h)
-three_right false b c h = absurd (false≢true h)
-
-allowed_parts :
-    (m : Machine) (i : ℕ) (s : Step)
-    → is_allowed m i s ≡ true
-    → (may_act m i s ≡ true) × (names_entry m s ≡ true) × (fits_phase m i s ≡ true)
-unfolding is_allowed refusal refusals
-allowed_parts m i s h = three_right (may_act m i s) (names_entry m s) (fits_phase m i s) h
+use Rattle.lock_core.proofs.Whole.{allowed_parts}
 
 -- ---- a step leaves the numbers of its pass, which knows that it took it
 abbrev IsBy : View → View → Step → Type 0
@@ -202,7 +179,7 @@ module _ (key : Opening) (steps : List (ℕ × Step)) (words : List ℕ) (views 
   unfolding fits
   by_phase Idle (Lock e op) is live names inside fit =
       let l = lock_step key s steps shown.shows j n shown.others v shown.pass shown.numbers live e
-      op (inside_if e inside) is (not_is (is_access op) fit) in
+      op (inside_if e inside) is (not-true (is_access op) fit) in
       let b = lock_by op e v _ l.0 l.2 in
       (l.0, b.0, b.1, l.1)
   by_phase Idle (Look e op) is live names inside fit =
@@ -253,7 +230,7 @@ module _ (key : Opening) (steps : List (ℕ × Step)) (words : List ℕ) (views 
       let b = sym (access_same op d.op named.1) in
       λ i. Look (a i) (b i)) in
       let l = look_again_step key s steps shown.shows j n shown.others v shown.pass shown.numbers
-      live d d (inside_if d.entry inside) is (alike_self d) may.0 (not_is _ may.1) in
+      live d d (inside_if d.entry inside) is (alike_self d) may.0 (not-true _ may.1) in
       let b = second_by d v _ l.0 l.2 in
       let done : Result (Looked d) (Look d.entry d.op) = (l.0, b.0, b.1, l.1) in
       subst (Result (Looked d)) same done

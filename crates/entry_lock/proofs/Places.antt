@@ -42,6 +42,7 @@ control_else words e n e' z other show = record {
       ∙ show.second;
 }
 
+-- The first or the second data word of an entry.
 abbrev pub data_of : Bool → Entry → ℕ
 data_of false x = x.dword0
 data_of true x = x.dword1

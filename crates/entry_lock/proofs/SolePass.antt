@@ -7,16 +7,15 @@ use mathlib.Core.Option.{some}
 use Rattle.atomic_table.specs.Table.{State as TableState}
 use Rattle.lock_core.specs.declared.entry.Entry.{Entry}
 use Rattle.lock_core.specs.declared.step.Step.{Step}
-use Rattle.lock_core.specs.Machine.{Actor, Machine, nobody}
+use Rattle.lock_core.specs.Machine.{Actor, Machine, nobody, HoldsEntry}
 use Rattle.lock_core.specs.Runs.{receipts_of}
-use Rattle.lock_core.proofs.Kept.{HasLock}
 use Rattle.lock_core.proofs.Lists.{some_same, none_some, same_at}
 use Rattle.lock_core.proofs.Noted.{not_true}
 use Rattle.entry_lock.specs.declared.rule.View.{View}
 use Rattle.entry_lock.specs.declared.rule.Opening.{Opening}
-use Rattle.entry_lock.specs.Rule.{IsHead, HoldsEntry, ShowsSteps, machine_after}
+use Rattle.entry_lock.specs.Rule.{IsHead, ShowsSteps, machine_after}
 use Rattle.entry_lock.proofs.ViewLists.{same_view, total_two, head_at, head_length}
-use Rattle.entry_lock.proofs.Turns.{kept, me, from_lock}
+use Rattle.entry_lock.proofs.PassSteps.{kept, me}
 use lib.ListN.{get_elem?}
 
 no_receipts :
@@ -86,9 +85,8 @@ module _ (key : Opening) (s : TableState ℕ View) (steps : List (ℕ × Step))
       dite {C = ⊥} (ℕ_discrete k.0 n)
       (λ q.
       free
-      (from_lock e v.actor.phase
-      (subst (λ (z : Actor). HasLock e z.phase)
+      (subst (λ (z : Actor). HoldsEntry e z.phase)
       (same_at C.actors n k.1 v.actor
       (subst (λ i. slice_get C.actors i ≡ Some k.1) q k.2)
-      (me key s steps h id n ns v at mine)) k.3)))
-      (λ other. subst (λ (z : Actor). HasLock e z.phase) (others_none k.0 k.1 other k.2) k.3))
+      (me key s steps h id n ns v at mine)) k.3))
+      (λ other. subst (λ (z : Actor). HoldsEntry e z.phase) (others_none k.0 k.1 other k.2) k.3))

@@ -17,7 +17,7 @@ use Rattle.lock_core.specs.declared.phase.Phase.{Phase}
 use Rattle.lock_core.specs.declared.phase.Phase.TheVariants.{Idle, HeldShut, Looked}
 use Rattle.lock_core.specs.declared.step.Step.{Step}
 use Rattle.lock_core.specs.declared.step.Step.TheVariants.{Split, Join}
-use Rattle.lock_core.specs.Machine.{Actor, Machine, nobody, newcomer}
+use Rattle.lock_core.specs.Machine.{Actor, Machine, nobody, newcomer, HoldsEntry}
 use Rattle.lock_core.specs.Steps.{may_act, names_entry, fits_phase, is_idle, joined_actor, is_allowed, after_step}
 use Rattle.lock_core.specs.Runs.{run}
 use Rattle.lock_core.proofs.Lists.{set_found, set_else, some_same}
@@ -26,14 +26,14 @@ use Rattle.lock_core.proofs.Telling.{moved_if, stepped_split, stepped_join}
 use Rattle.entry_lock.specs.declared.rule.View.{View}
 use Rattle.entry_lock.specs.declared.rule.Opening.{Opening}
 use Rattle.entry_lock.specs.Views.{occurrences, total, states_of, first_number, second_number, all_but_second, second_alone, parent_view, child_view, joined_view, spent_view}
-use Rattle.entry_lock.specs.Rule.{ActsAs, IsHead, HoldsEntry, AreStored, FrontFits, Shows, ShowsSteps, ShowsRun, machine_after}
+use Rattle.entry_lock.specs.Rule.{ActsAs, IsHead, AreStored, FrontFits, Shows, ShowsSteps, ShowsRun, machine_after}
 use Rattle.entry_lock.specs.PassInvariants.{IsActing}
 use Rattle.entry_lock.proofs.ViewLists.{set_view, same_view, total_one, total_two, total_set, total_more, one, times_cons, one_same, times_both, head_times, head_at}
 use Rattle.entry_lock.proofs.MachineMoves.{allowed_by, actor_is}
 use Rattle.entry_lock.proofs.Frame.{other_phase, set_has, apart_from}
 use Rattle.entry_lock.specs.OwnSteps.{steps_by}
 use Rattle.entry_lock.proofs.TakenSteps.{Own, own_step, other_step, head_cons}
-use Rattle.entry_lock.proofs.Turns.{pair_high, me, numbered}
+use Rattle.entry_lock.proofs.PassSteps.{pair_high, me, numbered}
 use lib.ListN.{get_elem?}
 
 -- ---- when splits and joins are allowed
@@ -694,11 +694,3 @@ joins_seats key id other v w a i a' i' s h at away is =
       shows_join key s h.0 h.1 id n.0 v at n.1 n.2 i a.live other m.0 w m.1 away
           (sym (view_else s.views id other (joined_view v w) away) ∙ is) m.2 i' a'.live,
     )
-
-pub split_lengths :
-    (l : List ℕ)
-    → 2 ≤ length l
-    → (length (all_but_second l) + 1 ≡ length l) × (length (second_alone l) ≡ 1)
-split_lengths [] h = absurd (omega arith)
-split_lengths (n ∷ []) h = absurd (omega arith)
-split_lengths (n ∷ m ∷ ms) h = ((omega arith), refl)

@@ -3,7 +3,6 @@ use Rattle.std.proofs.Common.{◌≡◌, ◌≢◌, ℕ, Bool, true, false, refl
 use Rattle.entry_model.specs.State.{State}
 use Rattle.lock_core.specs.declared.doing.Doing.{Doing}
 use Rattle.lock_core.specs.declared.entry.Entry.{Entry}
-use Rattle.lock_core.specs.declared.phase.Phase.TheVariants.{Held, HeldShut}
 use Rattle.lock_core.specs.Words.{next_state}
 use Rattle.lock_core.specs.Steps.{with_loaded, with_stored}
 use Rattle.entry_lock.specs.declared.rule.View.{View}
@@ -12,12 +11,6 @@ use Rattle.entry_lock.specs.Rule.{AreStored}
 use Rattle.entry_lock.specs.StepViews.{view_with_store, doing_with_word}
 use Rattle.entry_lock.proofs.Places.{data_of}
 
-pub shut_same : (d d' : Doing) → HeldShut d ≡ HeldShut d' → d ≡ d'
-shut_same d d' h = cc
-
-held_same : (d d' : Doing) → Held d ≡ Held d' → d ≡ d'
-held_same d d' h = cc
-
 -- What is loaded is the word found.
 pub loaded_is :
     (second : Bool) (x : Entry) (d : Doing) (n : ℕ)
@@ -25,16 +18,6 @@ pub loaded_is :
     → doing_with_word second n d ≡ with_loaded second x d
 loaded_is false x d n h = λ i. record d { first = Some (h i) }
 loaded_is true x d n h = λ i. record d { second = Some (h i) }
-
-pub stored_control :
-    (second : Bool) (s : State) (x : Entry) → (with_stored second s x).control ≡ x.control
-stored_control true s x = refl
-stored_control false s x = refl
-
-pub stored_published :
-    (second : Bool) (s : State) (x : Entry) → (with_stored second s x).published ≡ x.published
-stored_published true s x = refl
-stored_published false s x = refl
 
 pub stored_data :
     (second : Bool) (s : State) (x : Entry)

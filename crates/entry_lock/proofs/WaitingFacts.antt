@@ -1,5 +1,5 @@
 -- What tries of `Waiting` leave.
-use Rattle.std.proofs.Common.{◌≡◌, ℕ, zero, suc, ◌+◌, ◌*◌, ◌≤◌, List, [], ◌∷◌, ◌++◌, flat_map, length, refl, sym, ap, ◌∙◌, subst, arith, append-nil}
+use Rattle.std.proofs.Common.{◌≡◌, ℕ, zero, suc, ◌+◌, ◌*◌, ◌≤◌, List, [], ◌∷◌, ◌++◌, flat_map, sym, ap, ◌∙◌, subst, arith, append-nil}
 use Rattle.entry_model.specs.declared.line.Line.{Line}
 use Rattle.entry_model.specs.declared.receipt.Receipt.{Receipt}
 use Rattle.entry_model.specs.Fronts.{front_at, AreBelow, KeepsFronts}
@@ -8,11 +8,7 @@ use Rattle.entry_lock.specs.declared.rule.View.{View}
 use Rattle.entry_lock.specs.StepViews.{raised_fronts}
 use Rattle.entry_lock.specs.PassChanges.{FindsGone}
 use Rattle.entry_lock.specs.WaitingStore.{MadeReceipts}
-
-raised_size : (f : List ℕ) (e n : ℕ) → length (raised_fronts f e n) ≡ length f
-raised_size [] e n = refl
-raised_size (x ∷ xs) zero n = refl
-raised_size (x ∷ xs) (suc e) n = ap suc (raised_size xs e n)
+use Rattle.entry_lock.proofs.LineFronts.{raised_length}
 
 raised_above : (f : List ℕ) (e n e' : ℕ) → front_at f e' ≤ front_at (raised_fronts f e n) e'
 raised_above [] e n e' = omega arith
@@ -29,7 +25,7 @@ receipts_gone v w line l = record {
   fronts =
       subst (AreBelow v.fronts) (sym l.fronts)
       (record {
-        size = raised_size v.fronts line.entry ((line.stamp + 1) * 4);
+        size = raised_length v.fronts line.entry ((line.stamp + 1) * 4);
         low = λ e. raised_above v.fronts line.entry ((line.stamp + 1) * 4) e;
       });
 }

@@ -8,10 +8,10 @@ use Rattle.entry_model.specs.Fronts.{front_at}
 use Rattle.lock_core.specs.declared.doing.Doing.{Doing}
 use Rattle.lock_core.specs.declared.entry.Entry.{Entry}
 use Rattle.lock_core.specs.declared.phase.Phase.{Phase}
-use Rattle.lock_core.specs.declared.phase.Phase.TheVariants.{Idle, Held, HeldShut, Looked}
+use Rattle.lock_core.specs.declared.phase.Phase.TheVariants.{HeldShut, Looked}
 use Rattle.lock_core.specs.declared.step.Step.{Step}
 use Rattle.lock_core.specs.Words.{next_state}
-use Rattle.lock_core.specs.Machine.{Actor, Machine, nobody, opening_machine}
+use Rattle.lock_core.specs.Machine.{Actor, Machine, nobody, opening_machine, HoldsEntry}
 use Rattle.lock_core.specs.Runs.{run}
 use Rattle.lock_core.specs.Laws.{IsFair}
 use Rattle.entry_lock.specs.declared.rule.View.{View}
@@ -32,13 +32,6 @@ ActsAs m (n ∷ ns) a = slice_get m.actors n ≡ Some a
 abbrev pub IsHead : List ℕ → ℕ → Type 0
 IsHead [] n = ⊥
 IsHead (x ∷ xs) n = x ≡ n
-
--- An actor in the phase has the entry's lock.
-abbrev pub HoldsEntry : ℕ → Phase → Type 0
-HoldsEntry e Idle = ⊥
-HoldsEntry e (Held d) = d.entry ≡ e
-HoldsEntry e (HeldShut d) = d.entry ≡ e
-HoldsEntry e (Looked d) = ⊥
 
 -- ---- an entry, its words and its fronts
 -- The three words of the entry are those of the machine's entry.

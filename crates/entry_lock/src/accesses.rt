@@ -103,7 +103,7 @@ fn decide(
     table: &Words,
     seat: &mut PassSeat,
     doing: &Doing,
-    known: Outcome,
+    outcome: Outcome,
 ) -> Result<Receipt, Busy>
     requires table { IsAt table.now.table_id seat.old.table_id table.now.key seat.old.me }
     requires entry { doing.now.entry < length (states_of table.now.key) }
@@ -111,7 +111,7 @@ fn decide(
     requires looking { IsLooking seat.old.me.0 doing.now }
     requires read { is_read_of doing.now ≡ true }
     requires may { changes_of doing.now ≡ false }
-    requires known { known.receipt ≡ receipt_of doing.now }
+    requires outcome { outcome.receipt ≡ receipt_of doing.now }
     ensures table { IsAt table.now.table_id seat.new.table_id table.now.key seat.new.me }
     ensures acting { IsActing seat.new.me.0 }
     ensures idle { seat.new.me.0.actor.phase ≡ Idle }
@@ -131,7 +131,7 @@ fn decide(
     let found = look_again::<Brand>(table, seat, doing);
     let looked = word_from(&doing.noted);
     if found == looked {
-        return Ok(known.receipt);
+        return Ok(outcome.receipt);
     }
     let control = control_of(found);
     if is_still(&control, doing) {
@@ -150,7 +150,7 @@ fn raise_bits(
     table: &Words,
     seat: &mut PassSeat,
     doing: &Doing,
-    known: Outcome,
+    outcome: Outcome,
 ) -> Result<Receipt, Busy>
     requires table { IsAt table.now.table_id seat.old.table_id table.now.key seat.old.me }
     requires entry { doing.now.entry < length (states_of table.now.key) }
@@ -158,8 +158,8 @@ fn raise_bits(
     requires looking { IsLooking seat.old.me.0 doing.now }
     requires read { is_read_of doing.now ≡ true }
     requires may { changes_of doing.now ≡ true }
-    requires known { known.receipt ≡ receipt_of doing.now }
-    requires after { known.after ≡ next_of doing.now }
+    requires outcome { outcome.receipt ≡ receipt_of doing.now }
+    requires after { outcome.after ≡ next_of doing.now }
     ensures table { IsAt table.now.table_id seat.new.table_id table.now.key seat.new.me }
     ensures acting { IsActing seat.new.me.0 }
     ensures idle { seat.new.me.0.actor.phase ≡ Idle }
@@ -180,11 +180,11 @@ fn raise_bits(
         table,
         seat,
         doing,
-        word_from(&marked_control(doing, &known.after)),
+        word_from(&marked_control(doing, &outcome.after)),
     );
     let looked = word_from(&doing.noted);
     if found == looked {
-        return Ok(known.receipt);
+        return Ok(outcome.receipt);
     }
     Err(Busy {
         entry: doing.entry,
@@ -217,10 +217,10 @@ pub fn try_access(table: &Words, seat: &mut PassSeat, entry: u32, op: Op) -> Res
 {
     let looked = look_first(table, seat, entry, op)?;
     let doing = load_words(table, seat, &looked);
-    let known = outcome_of(&doing);
-    if known.changes {
-        raise_bits(table, seat, &doing, known)
+    let outcome = outcome_of(&doing);
+    if outcome.changes {
+        raise_bits(table, seat, &doing, outcome)
     } else {
-        decide(table, seat, &doing, known)
+        decide(table, seat, &doing, outcome)
     }
 }

@@ -77,7 +77,7 @@ fn decide(
     known: &Line,
     op: Op,
     doing: &Doing,
-    told: Outcome,
+    outcome: Outcome,
 ) -> Option<Receipt>
     requires table { IsAt table.now.table_id seat.old.table_id table.now.key seat.old.me }
     requires entry { known.now.entry < length (states_of table.now.key) }
@@ -85,7 +85,7 @@ fn decide(
     requires seen { IsSeen seat.old.me.0.actor.lines (states_of table.now.key) known.now }
     requires looked { IsByLine seat.old.me.0 known.now op doing.now }
     requires may { changes_of doing.now ≡ false }
-    requires told { told.receipt ≡ receipt_of doing.now }
+    requires outcome { outcome.receipt ≡ receipt_of doing.now }
     ensures table { IsAt table.now.table_id seat.new.table_id table.now.key seat.new.me }
     ensures acting { IsActing seat.new.me.0 }
     ensures idle { seat.new.me.0.actor.phase ≡ Idle }
@@ -101,7 +101,7 @@ fn decide(
     let _ = op;
     let found = look_line_again::<Brand>(table, seat, known, doing);
     if found == word_from(&doing.noted) {
-        return Some(told.receipt);
+        return Some(outcome.receipt);
     }
     // A lock, or a bit that another access raised, leaves the entry at the line's stamp.
     let control = control_of(found);
@@ -119,7 +119,7 @@ fn raise_bits(
     known: &Line,
     op: Op,
     doing: &Doing,
-    told: Outcome,
+    outcome: Outcome,
 ) -> Result<Option<Receipt>, Busy>
     requires table { IsAt table.now.table_id seat.old.table_id table.now.key seat.old.me }
     requires entry { known.now.entry < length (states_of table.now.key) }
@@ -127,8 +127,8 @@ fn raise_bits(
     requires seen { IsSeen seat.old.me.0.actor.lines (states_of table.now.key) known.now }
     requires looked { IsByLine seat.old.me.0 known.now op doing.now }
     requires may { changes_of doing.now ≡ true }
-    requires told { told.receipt ≡ receipt_of doing.now }
-    requires after { told.after ≡ next_of doing.now }
+    requires outcome { outcome.receipt ≡ receipt_of doing.now }
+    requires after { outcome.after ≡ next_of doing.now }
     ensures table { IsAt table.now.table_id seat.new.table_id table.now.key seat.new.me }
     ensures acting { IsActing seat.new.me.0 }
     ensures idle { seat.new.me.0.actor.phase ≡ Idle }
@@ -147,11 +147,11 @@ fn raise_bits(
     ensures steps { Took (Mark ∷ []) seat.old.me.0 seat.new.me.0 }
 {
     let _ = op;
-    let new = word_from(&marked_control(doing, &told.after));
+    let new = word_from(&marked_control(doing, &outcome.after));
     let found = mark_line::<Brand>(table, seat, known, doing, new);
     let looked = word_from(&doing.noted);
     if found == looked {
-        return Ok(Some(told.receipt));
+        return Ok(Some(outcome.receipt));
     }
     if is_gone_from(&control_of(found), known.stamp) {
         return Ok(None);
@@ -200,10 +200,10 @@ pub fn try_line(
     let Some(doing) = look_first(table, seat, known, op) else {
         return Ok(None);
     };
-    let told = outcome_of(&doing);
-    if told.changes {
-        raise_bits(table, seat, known, op, &doing, told)
+    let outcome = outcome_of(&doing);
+    if outcome.changes {
+        raise_bits(table, seat, known, op, &doing, outcome)
     } else {
-        Ok(decide(table, seat, known, op, &doing, told))
+        Ok(decide(table, seat, known, op, &doing, outcome))
     }
 }

@@ -5,10 +5,11 @@ use Rattle.std.specs.List.{AllByRecursion}
 use Rattle.hpte_fields.specs.TableSize.{entry_count}
 use Rattle.entry_model.specs.declared.operation.Op.{Op}
 use Rattle.entry_model.specs.Receipt.{IsNormal}
-use Rattle.entry_model.specs.Trial.{Call, call}
+use Rattle.entry_model.specs.Trial.{Call}
 use Rattle.entry_model.proofs.TrialSteps.{calls_from}
 use Rattle.entry_model.specs.Calls.{call_at, AreCallsIn}
 use Rattle.entry_model.proofs.BegunLaws.{at_end}
+use Rattle.basics.proofs.Each.{each_append}
 
 -- ---- one operation on entries that stand one behind the other
 pub row_length : (op : Op) (first count : ℕ) → length (calls_from op first count) ≡ count
@@ -71,14 +72,6 @@ at_behind [] ds i j is = let e : j ≡ i = omega (arith, is) in ap (call_at ds) 
 at_behind (c ∷ cs) ds i zero is = absurd (omega (arith, is))
 at_behind (c ∷ cs) ds i (suc j) is = at_behind cs ds i j (omega (arith, is))
 
-all_both :
-    (P : Call → Type 0) (cs ds : List Call)
-    → AllByRecursion P cs
-    → AllByRecursion P ds
-    → AllByRecursion P (cs ++ ds)
-all_both P [] ds all more = more
-all_both P (c ∷ cs) ds all more = (all.0, all_both P cs ds all.1 more)
-
 both_length : (cs ds : List Call) → length (cs ++ ds) ≡ length cs + length ds
 both_length [] ds = omega arith
 both_length (c ∷ cs) ds = omega (arith, both_length cs ds)
@@ -90,7 +83,7 @@ pub both_in :
     → length cs + length ds ≤ 16
     → AreCallsIn order (cs ++ ds)
 both_in order cs ds a b few = record {
-  in_table = all_both _ cs ds a.in_table b.in_table;
-  normal = all_both _ cs ds a.normal b.normal;
+  in_table = each_append _ cs ds a.in_table b.in_table;
+  normal = each_append _ cs ds a.normal b.normal;
   few = omega (arith, both_length cs ds, few);
 }

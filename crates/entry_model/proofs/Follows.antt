@@ -1,7 +1,7 @@
 -- What an operation leaves of an entry: a higher stamp, or the same entry with further bits.
 use Rattle.std.specs.Prelude.{◌≡◌, ◌+◌, ◌<◌, ◌⊎◌, Bool, true, false, if◌then◌else◌, ◌==◌, ◌||◌}
 use Rattle.std.proofs.Common.{arith, inl, inr, refl, ◌∙◌}
-use Rattle.entry_model.specs.State.{State, empty_state, OnlyRaisesBits}
+use Rattle.entry_model.specs.State.{State, empty_state, OnlyRaisesBits, Follows}
 use Rattle.entry_model.specs.declared.operation.Answer.{Answer}
 use Rattle.entry_model.specs.declared.operation.Answer.TheVariants.{Entered, Taken, Removed, Protected, Was, NotFound, NoMatch, Denied, Masked, At, Worn}
 use Rattle.entry_model.specs.declared.operation.Op.{Op}
@@ -10,9 +10,6 @@ use Rattle.entry_model.specs.Reply.{reply_of, change_to, change_where, entered_s
 use Rattle.entry_model.specs.History.{bits}
 use Rattle.hpte_fields.specs.Fields.{protected_word}
 use Rattle.storage_prot.specs.declared.want.Want.{Want}
-
-abbrev pub Follows : State → State → Type 0
-Follows s t = OnlyRaisesBits s t ⊎ (s.stamp < t.stamp)
 
 pub no_further : (s : State) → OnlyRaisesBits s s
 no_further s =

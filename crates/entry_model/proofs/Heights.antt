@@ -41,10 +41,6 @@ either_raises false n s p q h k = k refl
 stays_low : (n : ℕ) (s : State) (answer : Answer) → Raises n s (answer, s)
 stays_low n s answer = omega arith
 
-high_by : (b : Bool) (n : ℕ) → n + cond b 1 0 ≤ n + 1
-high_by true n = omega arith
-high_by false n = omega arith
-
 changed_raises :
     (n : ℕ) (s : State) (answer : Answer) (next : State)
     → height (record next { stamp = s.stamp + 1 }) ≤ height s + n
@@ -105,6 +101,7 @@ reply_raises s (ops.Access tag base key no_execute want masks) =
     (λ _. stays_low 2 s answers.Denied)) (λ _. stays_low 2 s answers.NoMatch)
 
 -- ---- several receipts
+-- The costs of the operations of these receipts, added up.
 abbrev pub weight : List Receipt → ℕ
 weight [] = 0
 weight (r ∷ rs) = cost r.op + weight rs
@@ -138,6 +135,7 @@ weight_history e rs =
     omega (arith, weight_filter (λ (r : Receipt). r.entry == e) rs)
 
 -- ---- trials
+-- The costs of the operations of these calls, added up.
 abbrev pub calls_cost : List Call → ℕ
 calls_cost [] = 0
 calls_cost (c ∷ cs) = cost c.op + calls_cost cs

@@ -4,16 +4,15 @@ use Rattle.std.specs.Prelude.{IsTrue, ◌==◌}
 use Rattle.std.proofs.Common.{◌≡◌, ℕ, ◌<◌, List, [], ◌∷◌, All, true, ap, sym, ◌∙◌, refl, subst, inl, inr, arith}
 use Rattle.std.proofs.lemmas.Bool.{eq-eqb}
 use Rattle.std.proofs.lemmas.List.Elements.{All-head, All-tail}
-use Rattle.entry_model.specs.State.{State}
+use Rattle.entry_model.specs.State.{State, Follows}
 use Rattle.entry_model.specs.declared.line.Line.{Line}
 use Rattle.entry_model.specs.declared.operation.Op.{Op}
 use Rattle.entry_model.specs.declared.operation.Op.TheVariants.{Enter, Remove, Protect, Read, ClearRef, ClearMod, Access}
 use Rattle.entry_model.specs.declared.receipt.Receipt.{Receipt}
 use Rattle.entry_model.specs.Reply.{reply_of, compared_bits, has_base, is_match, access_mode}
-use Rattle.entry_model.specs.Receipt.{is_decided, IsReceiptOf}
+use Rattle.entry_model.specs.Receipt.{is_decided}
 use Rattle.entry_model.specs.CachedLines.{IsCurrent, Holds, IsAccessOf, IsLineAt, ShowsLine, IsLater, AllLater}
 use Rattle.entry_model.specs.Run.{IsRun, IsStep, state_at}
-use Rattle.entry_model.proofs.Follows.{Follows}
 use Rattle.entry_model.proofs.RunFollows.{step_follows, run_follows}
 use Rattle.entry_model.proofs.OperationLaws.{decided_valid, decided_match}
 
@@ -141,14 +140,3 @@ known_is_decided line s (Protect test flags) h now = absurd h
 known_is_decided line s Read h now = absurd h
 known_is_decided line s ClearRef h now = absurd h
 known_is_decided line s ClearMod h now = absurd h
-
--- And so does its receipt, as a store of entries gives it.
-pub known_receipt_is_decided :
-    (line : Line) (op : Op) (r : Receipt)
-    → IsAccessOf line op
-    → IsReceiptOf line.entry op r
-    → IsCurrent line r.before
-    → is_decided r.answer ≡ true
-known_receipt_is_decided line op r access of now =
-    ap is_decided (r.lawful ∙ ap (λ o. (reply_of r.before o).0) of.op)
-    ∙ known_is_decided line r.before op access now

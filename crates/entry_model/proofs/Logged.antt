@@ -57,10 +57,3 @@ regrouped_swap (x ∷ xs) ys =
     (twice (regrouped_behind xs (regrouped_last x ys))
     (regrouped_along (append_assoc ys (x ∷ []) xs)
     (regrouped_self ((ys ++ x ∷ []) ++ xs))))
-
--- The second list goes before the first.
-pub regrouped_first : (xs ys zs : List Receipt) → Regrouped (xs ++ (ys ++ zs)) (ys ++ (xs ++ zs))
-regrouped_first xs ys zs =
-    regrouped_along (append_assoc ys xs zs)
-    (twice (regrouped_along (sym (append_assoc xs ys zs)) (regrouped_self (xs ++ (ys ++ zs))))
-    (regrouped_behind zs (regrouped_swap xs ys)))

@@ -101,16 +101,6 @@ access_undone s Read e h = cc
 access_undone s ClearRef e h = cc
 access_undone s ClearMod e h = cc
 
--- One that is At sets R, and for a store C.
-pub access_touches :
-    (s : State) (tag base : ℕ) (key no_execute : Bool) (want : Want) (masks : Masks)
-    → is_at (answer_of_access s tag base (access_mode key no_execute want masks)).0 ≡ true
-    → (answer_of_access s tag base (access_mode key no_execute want masks)).1 ≡ touched_state s want
-access_touches s tag base key no_execute want masks =
-    accessed_has (λ p. is_at p.0 ≡ true → p.1 ≡ touched_state s want) s tag base key no_execute want
-    masks (λ _ _. refl) (λ _ h. absurd (false≢true h)) (λ _ h. absurd (false≢true h))
-    (λ h. absurd (false≢true h))
-
 -- At, Masked and Denied come only on a valid entry, whatever the operation.
 pub decided_valid : (s : State) (op : Op) → is_decided (reply_of s op).0 ≡ true → s.valid ≡ true
 decided_valid s (Access tag base key no_execute want masks) h =

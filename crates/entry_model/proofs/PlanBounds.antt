@@ -19,6 +19,7 @@ abbrev pub EntersOnly : (ℕ → ℕ → Type 0) → Op → Type 0
 EntersOnly W (Enter dword0 dword1) = W dword0 dword1
 EntersOnly W other = Unit {0}
 
+-- None of the receipts says Worn.
 abbrev pub NoneWorn : List Receipt → Type 0
 NoneWorn rs = AllByRecursion (λ (r : Receipt). is_worn r.answer ≡ false) rs
 
@@ -78,6 +79,8 @@ trial_ops Q goes (c ∷ cs) (r ∷ rs) q h =
     (λ k. trial_ops Q goes cs rs q.1 k)
 
 -- ---- the reply of a tame plan
+-- The receipts enter no other words than these and raise few stamps, and the code is H_HARDWARE
+-- only where an entry was worn.
 pub record IsTameReply (W : ℕ → ℕ → Type 0) (reply : HReply) : Type 0 where
   pub enters : AllByRecursion (λ (r : Receipt). EntersOnly W r.op) reply.receipts
   pub few : weight reply.receipts ≤ 32

@@ -68,7 +68,7 @@ level_from :
 level_from x u v e h k = grind (arith, nat_tests)
 
 -- where a receipt goes in front, and where it goes on
-put_front :
+pub put_front :
     (x y : Receipt) (ys : List Receipt) → precedes x y ≡ true → put_in x (y ∷ ys) ≡ x ∷ y ∷ ys
 put_front x y ys h = rw h refl
 

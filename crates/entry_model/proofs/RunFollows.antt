@@ -2,11 +2,11 @@
 use Rattle.std.proofs.Common.{◌≡◌, ℕ, ◌<◌, List, [], ◌∷◌, sym, subst, ◌⊎◌, inl, inr, length}
 use Rattle.std.proofs.lemmas.Bool.{cases_eq}
 use Rattle.std.proofs.lemmas.List.{get_or-set_same, get_or-set_other}
-use Rattle.entry_model.specs.State.{State, empty_state}
+use Rattle.entry_model.specs.State.{State, empty_state, Follows}
 use Rattle.entry_model.specs.declared.receipt.Receipt.{Receipt}
 use Rattle.entry_model.specs.Receipt.{after_of}
 use Rattle.entry_model.specs.Run.{IsRun, IsStep, state_at, states_after}
-use Rattle.entry_model.proofs.Follows.{Follows, stays, follows_on, reply_follows}
+use Rattle.entry_model.proofs.Follows.{stays, follows_on, reply_follows}
 
 -- a step on this entry
 step_same :

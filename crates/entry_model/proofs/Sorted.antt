@@ -2,10 +2,10 @@
 use Rattle.std.proofs.Common.{◌≡◌, ℕ, ◌+◌, ◌*◌, ◌<◌, ◌≤◌, List, [], ◌∷◌, Bool, true, false, cond, arith, ap, sym, ◌∙◌, refl, subst, ◌⊎◌, inl, inr}
 use Rattle.std.proofs.lemmas.Bool.{and_parts, eq-eqb, eqb-true, cond_both}
 use Rattle.std.proofs.lemmas.Bool.Decides.{nat_tests}
-use Rattle.entry_model.specs.State.{State, OnlyRaisesBits}
+use Rattle.entry_model.specs.State.{State, OnlyRaisesBits, Follows}
 use Rattle.entry_model.specs.declared.receipt.Receipt.{Receipt}
 use Rattle.entry_model.specs.Receipt.{after_of}
-use Rattle.entry_model.proofs.Follows.{Follows, reply_follows, same_or_more}
+use Rattle.entry_model.proofs.Follows.{reply_follows, same_or_more}
 use Rattle.entry_model.specs.History.{bits, IsLegal, by_place, put_in, precedes, place, pair_of, state_eq}
 use Rattle.basics.proofs.Bools.{bool_same, bool_self}
 

@@ -1,13 +1,12 @@
 -- One step of a trial over entries that stand one behind the other.
 use Rattle.std.specs.Prelude.{map}
-use Rattle.std.proofs.Common.{◌≡◌, ℕ, suc, ◌+◌, ◌-◌, ◌<◌, ◌≤◌, List, [], ◌∷◌, ◌++◌, length, drop, Bool, true, false, Some, arith, subst, sym, ap, ◌∙◌, refl, append_assoc, append-nil}
+use Rattle.std.proofs.Common.{◌≡◌, ℕ, ◌+◌, ◌-◌, List, [], ◌∷◌, ◌++◌, length, drop, Bool, true, false, Some, sym, ap, ◌∙◌, refl, append_assoc}
 use Rattle.std.proofs.Math.Seq.{drop-append_seam}
 use Rattle.std.specs.List.{range_with_len}
 use Rattle.entry_model.specs.declared.operation.Op.{Op}
 use Rattle.entry_model.specs.declared.operation.Answer.{Answer}
 use Rattle.entry_model.specs.declared.receipt.Receipt.{Receipt}
-use Rattle.entry_model.specs.Receipt.{IsReceiptOf}
-use Rattle.entry_model.specs.Trial.{Call, IsTrial, call, ending_of, receipts_added}
+use Rattle.entry_model.specs.Trial.{Call, call, ending_of, receipts_added}
 
 -- The calls on n entries from one on.
 abbrev pub calls_from : Op → ℕ → ℕ → List Call
@@ -27,8 +26,6 @@ pub ending-off :
 ending-off goes r rs off = rw off refl
 
 -- ---- the receipts behind those of before
-pub added-none : (old : List Receipt) → receipts_added old old ≡ []
-added-none old = ap (drop (length old)) (sym (append-nil old)) ∙ drop-append_seam old []
 
 pub added-push :
     (old new : List Receipt) (r : Receipt)

@@ -1,15 +1,25 @@
 -- Calls on a list of states that nobody else changes.
 use Rattle.std.specs.Prelude.{if◌then◌else◌}
-use Rattle.std.proofs.Common.{◌≡◌, ℕ, ◌<◌, List, [], ◌∷◌, Bool, true, false, ap, sym, ◌∙◌, refl, subst, MatchBool, ◌⊎◌, inl, inr, length, length-set}
+use Rattle.std.proofs.Common.{◌≡◌, ℕ, ◌<◌, List, [], ◌∷◌, Bool, true, false, not, ap, sym, ◌∙◌, refl, subst, MatchBool, ◌⊎◌, inl, inr, length, length-set}
 use Rattle.std.specs.List.{AllByRecursion}
 use Rattle.std.proofs.lemmas.Bool.{cases_Bool}
 use Rattle.entry_model.specs.State.{State}
 use Rattle.entry_model.specs.declared.operation.Answer.{Answer}
 use Rattle.entry_model.specs.declared.receipt.Receipt.{Receipt}
-use Rattle.entry_model.specs.Receipt.{after_of, IsReceiptOf}
+use Rattle.entry_model.specs.Receipt.{after_of, IsReceiptOf, is_no_match, is_at, is_worn}
 use Rattle.entry_model.specs.Run.{state_at, states_after, IsRun, IsStep}
 use Rattle.entry_model.specs.Trial.{Call, IsTrial, receipt_at, trial_run}
 use Rattle.entry_model.proofs.Exact.{same}
+use Rattle.entry_model.specs.declared.operation.Answer.TheVariants.{NoMatch}
+
+-- After a worn entry a removal's trial doesn't go on.
+abbrev pub not_worn : Answer → Bool
+not_worn answer = not (is_worn answer)
+
+-- An entry that doesn't translate the page allows no access.
+pub no_match_not_at : (answer : Answer) → is_no_match answer ≡ true → is_at answer ≡ false
+no_match_not_at NoMatch on = refl
+no_match_not_at other on = cc
 
 -- the first receipt is the one that the states give
 first_is :
@@ -64,9 +74,11 @@ trial_is goes a b (c ∷ cs) (r ∷ rs) s run =
     ∙ ap (chosen goes a cs) (first_is a run.0 c r s.0 run.1)
 
 -- ---- the calls on a list of states are made in turn
+-- Each call is on one of the first n entries.
 abbrev pub Within : ℕ → List Call → Type 0
 Within n cs = AllByRecursion (λ c. c.entry < n) cs
 
+-- The receipts are a trial of these calls, and lead from the states a to those given with them.
 abbrev pub Meets : (Answer → Bool) → List State → List Call → List Receipt × List State → Type 0
 Meets goes a cs x = IsTrial goes cs x.0 × IsRun a x.0 x.1
 

@@ -2,7 +2,7 @@
 use Rattle.std.specs.Prelude.{refl, ◌≡◌, ℕ, Some, Bool, true, false, List, Option, find, not, None}
 use Rattle.entry_model.specs.State.{State, empty_state}
 use Rattle.entry_model.specs.declared.operation.Answer.{Answer}
-use Rattle.entry_model.specs.declared.operation.Answer.TheVariants.{Taken, Worn, NoMatch, Denied, Masked, At}
+use Rattle.entry_model.specs.declared.operation.Answer.TheVariants.{Entered, Taken, Removed, Protected, Was, Worn, NoMatch, Denied, Masked, At}
 use Rattle.entry_model.specs.declared.operation.Op.{Op}
 use Rattle.entry_model.specs.declared.operation.Op.TheVariants.{Enter, Read, Access}
 use Rattle.entry_model.specs.declared.receipt.Receipt.{Receipt}
@@ -48,6 +48,14 @@ is_taken other = false
 abbrev pub is_worn : Answer → Bool
 is_worn Worn = true
 is_worn other = false
+
+-- The entry was changed, other than by an access: its stamp was raised.
+abbrev pub is_change : Answer → Bool
+is_change Entered = true
+is_change Removed = true
+is_change Protected = true
+is_change Was = true
+is_change other = false
 
 -- The entry doesn't translate the page.
 abbrev pub is_no_match : Answer → Bool

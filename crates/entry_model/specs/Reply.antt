@@ -36,6 +36,10 @@ fits_andcond dword0 (Some andcond) = bit_and dword0 andcond == 0
 abbrev pub is_found : State → Test → Bool
 is_found s test = s.valid && (fits_avpn s.dword0 test.avpn && fits_andcond s.dword0 test.andcond)
 
+-- Every entry that is valid passes it.
+abbrev pub no_test : Test
+no_test = record { avpn = None; andcond = None }
+
 -- ---- changes
 -- A change raises the stamp by one. At the last stamp there is no further change.
 abbrev pub change_to : State → Answer → State → Answer × State

@@ -1,5 +1,5 @@
 -- The state of one page table entry.
-use Rattle.std.specs.Prelude.{◌≡◌, ℕ, Bool, false, bit_and, true}
+use Rattle.std.specs.Prelude.{◌≡◌, ℕ, ◌+◌, ◌<◌, ◌⊎◌, Bool, false, bit_and, true, if◌then◌else◌}
 use Rattle.hpte_fields.specs.Fields.{rc_bits}
 
 -- The two doublewords without R and C, the two bits, and the stamp: how often the entry has
@@ -45,6 +45,15 @@ pub record OnlyRaisesBits (s t : State) : Type 0 where
   pub stamp : t.stamp ≡ s.stamp
   pub referenced : s.referenced ≡ true → t.referenced ≡ true
   pub changed : s.changed ≡ true → t.changed ≡ true
+
+-- The second state comes from the first by operations: it is a later one, or the same with further
+-- bits.
+abbrev pub Follows : State → State → Type 0
+Follows s t = OnlyRaisesBits s t ⊎ (s.stamp < t.stamp)
+
+-- R and C as one number: R counts 2, and C counts 1.
+abbrev pub bits_number : State → ℕ
+bits_number s = (if s.referenced then 2 else 0) + (if s.changed then 1 else 0)
 
 -- The state with these R and C.
 abbrev pub with_these_bits : State → Bool → Bool → State

@@ -6,7 +6,7 @@ use Rattle.entry_model.specs.declared.operation.Op.{Op}
 use Rattle.entry_model.specs.declared.operation.Answer.{Answer}
 use Rattle.entry_model.specs.declared.receipt.Receipt.{Receipt}
 use Rattle.entry_model.specs.declared.hreply.HReply.{HReply}
-use Rattle.entry_model.specs.Receipt.{IsReceiptOf, receipt_of, is_taken, is_no_match}
+use Rattle.entry_model.specs.Receipt.{IsReceiptOf, receipt_of}
 use Rattle.entry_model.specs.Run.{state_at, states_after}
 use Rattle.papr_codes.specs.declared.codes.Rc.{Rc}
 

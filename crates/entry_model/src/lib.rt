@@ -37,7 +37,7 @@ pub use laws::{
 pub use line::Line;
 pub use lists::{Receipts, ReplyWords};
 pub use making::make_trial;
-pub use operation::{Answer, Op, Test};
+pub use operation::{Answer, NO_TEST, Op, Test};
 pub use receipt::Receipt;
 pub use state::EntryState;
 pub use store::EntryStore;

@@ -10,6 +10,12 @@ pub struct Test {
     pub andcond: Option<u64>,
 }
 
+/// The test that every valid entry passes.
+pub const NO_TEST: Test = Test {
+    avpn: None,
+    andcond: None,
+};
+
 /// An operation on one entry.
 #[derive(Clone, Copy, PartialEq, Eq, Debug)]
 pub enum Op {
@@ -75,4 +81,20 @@ pub enum Answer {
     At,
     /// The entry's stamp is at its last value, so that it can't change.
     Worn,
+}
+
+impl Answer {
+    ghost use Rattle.std.specs.Prelude.{◌≡◌};
+    ghost use Rattle.entry_model.specs.Receipt.{is_change};
+
+    /// Whether the entry was changed, other than by an access. Its stamp was raised then.
+    #[inline(always)]
+    pub fn is_change(self) -> bool
+        ensures { result ≡ is_change self }
+    {
+        matches!(
+            self,
+            Answer::Entered | Answer::Removed | Answer::Protected | Answer::Was
+        )
+    }
 }

@@ -13,6 +13,8 @@ use Rattle.frame_grants.specs.Grants.{GrantedMemory, IsPlaced, AreApart, IsSound
 use Rattle.basics.proofs.Lists.{AllPairs-between, filters_join, list_any-false}
 
 -- ---- what a grant has that is not refused
+-- Nothing is wrong with the grant as a further one: it has bytes, is aligned, ends in range, isn't
+-- one too many, and meets neither another grant nor the pool.
 pub record IsAccepted (granted : GrantedMemory) (grant : Grant) : Type 0 where
   pub has_bytes : is_empty grant ≡ false
   pub aligned : is_aligned grant ≡ true
@@ -82,9 +84,11 @@ above grant other here there apart below =
     let meet = logical_apart grant other apart in
     grind (arith, nat_tests, here.has_bytes, there.has_bytes, meet, below)
 
+-- The grants whose logical range starts below that of a further one.
 abbrev pub lower_part : GrantedMemory → Grant → List Grant
 lower_part granted grant = filter (starts_below grant) granted.grants
 
+-- The grants whose logical range doesn't start below that of a further one.
 abbrev pub higher_part : GrantedMemory → Grant → List Grant
 higher_part granted grant =
     filter (λ (other : Grant). not (starts_below grant other)) granted.grants

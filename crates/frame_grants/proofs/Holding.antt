@@ -1,7 +1,7 @@
 -- What the machine range of a logical range is: it lies in one grant, off the pool, and no other
 -- grant holds the range.
 use Rattle.std.specs.Prelude.{option_map}
-use Rattle.std.proofs.Common.{◌≡◌, ℕ, ◌+◌, ◌-◌, ◌<◌, ◌≤◌, ◌^◌, ◌==◌, if◌then◌else◌, Bool, true, false, List, length, get_or, find, All, Contains, Option, Some, None, IfSome, refl, sym, ap, subst, ◌∙◌, inl, inr, ◌⊎◌, arith}
+use Rattle.std.proofs.Common.{◌≡◌, ℕ, ◌+◌, ◌-◌, ◌<◌, ◌≤◌, ◌^◌, ◌==◌, if◌then◌else◌, Bool, true, false, List, length, get_or, find, Contains, Option, Some, None, IfSome, refl, sym, ap, subst, ◌∙◌, inl, inr, ◌⊎◌, arith}
 use Rattle.std.proofs.lemmas.Bool.{cases_lt}
 use Rattle.std.proofs.lemmas.Bool.Decides.{nat_tests}
 use Rattle.std.proofs.lemmas.List.{get_or_default}
@@ -10,7 +10,7 @@ use Rattle.frame_grants.specs.declared.grant.Grant.{Grant}
 use Rattle.frame_grants.specs.declared.grant.Kind.{Kind}
 use Rattle.frame_grants.specs.Ranges.{ranges_meet, range_within}
 use Rattle.frame_grants.specs.Grants.{GrantedMemory, IsPlaced, AreApart, meets_logical, meets_pool, holds, machine_at, machine_range}
-use Rattle.basics.proofs.Lists.{find-Some, find-None}
+use Rattle.basics.proofs.Lists.{find-Some}
 use Rattle.pool_range.specs.Ranges.{address_end}
 
 -- ---- the grant that is found
@@ -77,15 +77,6 @@ within_of granted logical length grant apart some holding here =
       has_bytes = some;
     }
 
-none_of :
-    (empty : Bool) (o : Option Grant) (f : Grant → ℕ × Kind)
-    → empty ≡ false
-    → (if empty then None else option_map f o) ≡ None
-    → o ≡ None
-none_of true o f has none = absurd (cc)
-none_of false None f has none = refl
-none_of false (Some grant) f has none = absurd (cc)
-
 pub found_of :
     (empty : Bool) (o : Option Grant) (f : Grant → ℕ × Kind) (found : ℕ × Kind)
     → (if empty then None else option_map f o) ≡ Some found
@@ -131,18 +122,6 @@ machine_range-off_pool granted logical length found apart some =
     is.within
     (All-contains (λ g. meets_pool granted g ≡ false) granted.grants grant apart.off_pool
     is.granted_is)
-
--- It is given exactly where the range has bytes and some grant holds it.
-pub machine_range-None :
-    (granted : GrantedMemory) (logical length : ℕ)
-    → 0 < length
-    → machine_range granted.grants logical length ≡ None
-    → All (λ grant. holds logical length grant ≡ false) granted.grants
-unfolding machine_range
-machine_range-None granted logical length bytes none =
-    find-None (holds logical length) granted.grants
-    (none_of (length == 0) (find (holds logical length) granted.grants) (machine_at logical)
-    (grind (arith, nat_tests)) none)
 
 -- ---- one grant alone
 clash :

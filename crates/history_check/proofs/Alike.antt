@@ -11,13 +11,13 @@ use Rattle.entry_model.specs.declared.operation.Op.TheVariants as ops
 use Rattle.entry_model.specs.declared.operation.Answer.{Answer}
 use Rattle.entry_model.specs.declared.operation.Answer.TheVariants as answers
 use Rattle.entry_model.specs.declared.receipt.Receipt.{Receipt}
-use Rattle.entry_model.specs.Receipt.{after_of, is_at}
+use Rattle.entry_model.specs.Receipt.{after_of, is_at, is_change}
 use Rattle.entry_model.specs.Reply.{reply_of, change_to, change_where, entered_state, is_found, is_match, is_allowed, masks_refuse, access_mode, answer_of_match, answer_of_allowed, touched_state, is_store}
 use Rattle.entry_model.specs.History.{IsLegal, history, by_place, put_in, precedes, place, pair_of, state_eq}
 use Rattle.basics.specs.Words.{bool_eq}
 use Rattle.entry_model.proofs.Sorted.{state_self}
 use Rattle.receipt_text.specs.Receipts.{mark_of}
-use Rattle.history_check.specs.Steps.{step_op, raises_stamp, is_unchanged}
+use Rattle.history_check.specs.Steps.{step_op, is_unchanged}
 use Rattle.authority_mask.specs.Authority.{no_masks}
 
 -- The operation is a store of a processor.
@@ -25,6 +25,7 @@ abbrev pub is_store_access : Op → Bool
 is_store_access (ops.Access tag base key no_execute want masks) = is_store want
 is_store_access other = false
 
+-- The two receipts have the same mark, and the same is kept of their operations.
 pub record Alike (x y : Receipt) : Type 0 where
   pub mark : mark_of x ≡ mark_of y
   pub op : step_op x.op ≡ step_op y.op
@@ -71,7 +72,7 @@ next_by (ops.Access tag base key no_execute want masks) s = touched_state s want
 
 abbrev after_by : Op → Answer → State → State
 after_by op answer s =
-    if raises_stamp answer then record (next_by op s) { stamp = s.stamp + 1 } else if is_at answer
+    if is_change answer then record (next_by op s) { stamp = s.stamp + 1 } else if is_at answer
     then next_by op s else s
 
 pub either_P :
@@ -246,19 +247,24 @@ alike_place x y h =
     + (if alike_flag x y h i then 0 else 1)
 
 -- ---- pairs of receipts
+-- Two receipts side by side, each of a list of its own.
 pub record Pair : Type 0 where
   pub first : Receipt
   pub second : Receipt
 
+-- The first receipt of each pair.
 abbrev pub firsts : List Pair → List Receipt
 firsts zs = map (λ z. z.first) zs
 
+-- The second receipt of each pair.
 abbrev pub seconds : List Pair → List Receipt
 seconds zs = map (λ z. z.second) zs
 
+-- The two receipts of each pair are alike.
 abbrev pub AllAlike : List Pair → Type 0
 AllAlike zs = AllByRecursion (λ z. Alike z.first z.second) zs
 
+-- The two receipts of each pair have the same state before.
 abbrev pub AllBefore : List Pair → Type 0
 AllBefore zs = AllByRecursion (λ z. z.first.before ≡ z.second.before) zs
 

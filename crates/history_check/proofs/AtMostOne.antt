@@ -45,8 +45,10 @@ use Rattle.history_check.specs.ReplyMarks.{SameWay, ShowsSame}
 use Rattle.history_check.specs.Steps.{step_op}
 use Rattle.run_model.proofs.OneReply.{calls_by_walk}
 use Rattle.history_check.proofs.Alike.{Pair, firsts, seconds, AllAlike, AllBefore}
+use Rattle.run_model.proofs.StoreLines.{dump_is_quiet}
 
 -- ---- receipts in pairs
+-- Each receipt with the one at its index in the other list, as far as both lists go.
 abbrev pub zip : List Receipt → List Receipt → List Pair
 zip [] ys = []
 zip (x ∷ xs) [] = []
@@ -282,10 +284,6 @@ device_alike grants (Some w) write ioba (replies.Segment d) q h k m = absurd h
 device_alike grants (Some w) write ioba replies.MaskSet q h k m = absurd h
 device_alike grants (Some w) write ioba (replies.Dump d) q h k m = absurd h
 
-dump_is_quiet : is_quiet acts.Dump ≡ false → ⊥
-unfolding is_quiet
-dump_is_quiet h = cc
-
 pub line_alike :
     (set : StoreContext) (s s' : Processor) (act : Act) (r q : Reply)
     → is_quiet act ≡ false
@@ -308,7 +306,7 @@ line_alike set s s' (acts.Device write liobn ioba) r q n e h h' k k' m =
     device_alike set.grants set.window write ioba r q h k m
 line_alike set s s' (acts.SetMask name value) r q n e h h' k k' m =
     subst (λ x. AllAlike (LinePairs x q)) (sym h) tt
-line_alike set s s' acts.Dump r q n e h h' k k' m = absurd (dump_is_quiet n)
+line_alike set s s' acts.Dump r q n e h h' k k' m = absurd (dump_is_quiet acts.Dump refl n)
 
 access_keeps :
     (s : Processor) (want : Want) (ea : ℕ) (user : Bool) (r : Reply)
@@ -490,4 +488,4 @@ line_same set s acts.SlbClear r q n h h' k k' m z = h ∙ sym k
 line_same set s (acts.Device write liobn ioba) r q n h h' k k' m z =
     device_same set.grants set.window write ioba r q h k m z
 line_same set s (acts.SetMask name value) r q n h h' k k' m z = h ∙ sym k
-line_same set s acts.Dump r q n h h' k k' m z = absurd (dump_is_quiet n)
+line_same set s acts.Dump r q n h h' k k' m z = absurd (dump_is_quiet acts.Dump refl n)

@@ -20,23 +20,29 @@ use Rattle.history_check.proofs.GoodStores.{Parts, parts_of, AllGood, next_store
 use Rattle.history_check.proofs.OneSection.{Twice, first, second, ones, twos, Shown, Plain, AllSame, stores_same}
 
 -- ---- all sections
+-- The lines before the first quiet line; and each quiet line with the lines behind it. All have two
+-- replies.
 abbrev pub cut_twice : List Twice → List Twice × List (Twice × List Twice)
 cut_twice [] = ([], [])
 cut_twice (p ∷ ps) =
     if is_quiet p.line.act then ([], (p, (cut_twice ps).0) ∷ (cut_twice ps).1) else
     (p ∷ (cut_twice ps).0, (cut_twice ps).1)
 
+-- Each quiet line and the lines behind it, with the first of their two replies.
 abbrev pub rest_ones : List (Twice × List Twice) → List (RepliedLine × List RepliedLine)
 rest_ones qs = map (λ q. (first q.0, ones q.1)) qs
 
+-- Each quiet line and the lines behind it, with the second of their two replies.
 abbrev pub rest_twos : List (Twice × List Twice) → List (RepliedLine × List RepliedLine)
 rest_twos qs = map (λ q. (second q.0, twos q.1)) qs
 
+-- All lines of a run that is cut, with the first of their two replies.
 abbrev pub both_ones :
     List Twice × List (Twice × List Twice)
     → List RepliedLine × List (RepliedLine × List RepliedLine)
 both_ones x = (ones x.0, rest_ones x.1)
 
+-- All lines of a run that is cut, with the second of their two replies.
 abbrev pub both_twos :
     List Twice × List (Twice × List Twice)
     → List RepliedLine × List (RepliedLine × List RepliedLine)
@@ -62,6 +68,7 @@ cut_twos (p ∷ ps) =
 abbrev pub AllRest : (Twice → Type 0) → List (Twice × List Twice) → Type 0
 AllRest P qs = AllByRecursion (λ (q : Twice × List Twice). P q.0 × AllByRecursion P q.1) qs
 
+-- A fact of each line of a run that is cut, those before its first quiet line among them.
 abbrev pub AllCut : (Twice → Type 0) → List Twice × List (Twice × List Twice) → Type 0
 AllCut P x = AllByRecursion P x.0 × AllRest P x.1
 
@@ -88,6 +95,7 @@ uncut_each P (p ∷ ps) h = at (cases_Bool (is_quiet p.line.act)) (uncut_each P 
   at (inr q) rest = let k :
       AllCut P (p ∷ (cut_twice ps).0, (cut_twice ps).1) = rw q at h in (k.0.0, rest (k.0.1, k.1))
 
+-- In a run that is cut no line is quiet but those at which it was cut.
 abbrev pub PlainCut : List Twice × List (Twice × List Twice) → Type 0
 PlainCut x = Plain x.0 × AllByRecursion (λ (q : Twice × List Twice). Plain q.1) x.1
 
@@ -133,6 +141,7 @@ parts_same n s ps (q ∷ qs) named size low plain shows g k =
     (here, ((said, rest.0), rest.1))
 
 -- ---- a trace
+-- Each line of a trace with its replies in two runs, as far as the three lists go.
 abbrev pub twice_of : List TraceLine → List Reply → List Reply → List Twice
 twice_of [] rs qs = []
 twice_of (l ∷ ls) [] qs = []

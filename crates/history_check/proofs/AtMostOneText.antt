@@ -61,6 +61,7 @@ cut_text [] = refl
 cut_text (t ∷ ts) = ap (λ z. reply_text t.line t.reply ++ z) (cut_text ts) ∙ front_text t (cut ts)
 
 -- ---- a section
+-- Both replies are of the line's kind.
 abbrev pub HasKinds : Twice → Type 0
 HasKinds p = IsOfKind p.line.act p.one × IsOfKind p.line.act p.two
 

@@ -53,6 +53,7 @@ explained_begins k t text rest h = (h.0, rest, good_parts (trace_to k t) h.0 h.1
 abbrev pub next_run : AllStores → List TraceLine → List Reply → TraceLine → AllStores
 next_run w ms rs l = next_stores w (lines_with_replies ms rs) l.act
 
+-- The reply to a quiet line behind a section of these lines with these replies.
 abbrev pub next_reply : AllStores → List TraceLine → List Reply → TraceLine → Reply
 next_reply w ms rs l = quiet_reply w (lines_with_replies ms rs) l.act
 
@@ -117,6 +118,8 @@ first_text (m ∷ ms) l ns (a ∷ fs) r bs rest h =
     (reply_text l r ++ (text_from ns bs ++ rest)))
 
 -- ---- replies
+-- Replies to several lines, parted at the line l: those to the lines before it, the one to it, and
+-- those to the lines behind it, each of its line's kind.
 pub record SplitReplies (ms : List TraceLine) (l : TraceLine) (ns : List TraceLine)
     (rs : List Reply) :
     Type 0 where

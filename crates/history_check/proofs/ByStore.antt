@@ -7,7 +7,7 @@ use Rattle.trace_line.specs.declared.act.Act.{Act}
 use Rattle.run_model.specs.AllStores.{AllStores}
 use Rattle.run_model.specs.StoreNumbers.{store_at, store_of}
 use Rattle.run_model.specs.Stores.{is_on}
-use Rattle.run_model.proofs.Each.{each_under}
+use Rattle.basics.proofs.Each.{each_under}
 use Rattle.run_model.proofs.StoreNumbers.{store_inside, on_own}
 use Rattle.history_check.specs.FoundStores.{windows_of}
 

@@ -1,6 +1,6 @@
 -- The operations of a hypervisor call: what is kept of each of them, and how many there are.
-use Rattle.std.proofs.Common.{◌≡◌, ℕ, ◌≤◌, ◌+◌, List, [], ◌∷◌, Bool, true, false, ap, ◌∙◌, refl, map, length, arith, Option, Some, None}
-use Rattle.std.specs.Prelude.{nat_lt, ◌*◌, ◌/◌, ◌==◌, ◌&&◌, ◌||◌, slice_index}
+use Rattle.std.proofs.Common.{◌≡◌, ℕ, ◌≤◌, List, [], ◌∷◌, Bool, true, false, ap, ◌∙◌, refl, map, length, arith, Option, Some, None}
+use Rattle.std.specs.Prelude.{nat_lt, ◌*◌, ◌/◌, ◌||◌, slice_index}
 use Rattle.std.specs.List.{AllByRecursion, range_with_len}
 use Rattle.std.specs.Option.{option_map_or}
 use Rattle.std.proofs.lemmas.Bool.{cond_both}
@@ -14,12 +14,11 @@ use Rattle.dma_window.specs.Calls.{clear_plan, replace_plan, put_plan_at, get_pl
 use Rattle.dma_window.specs.Entries.{address_of, permits, first_word, second_word}
 use Rattle.dma_window.specs.Pages.{is_ram}
 use Rattle.entry_model.specs.State.{State, empty_state}
-use Rattle.entry_model.specs.Reply.{reply_of, change_to, entered_state, is_found}
+use Rattle.entry_model.specs.Reply.{reply_of, change_to, entered_state, is_found, no_test}
 use Rattle.entry_model.specs.declared.operation.Answer.{Answer}
 use Rattle.entry_model.specs.declared.operation.Answer.TheVariants as answers
 use Rattle.entry_model.specs.declared.operation.Op.{Op}
 use Rattle.entry_model.specs.declared.operation.Op.TheVariants as ops
-use Rattle.entry_model.specs.declared.operation.Test.{Test}
 use Rattle.entry_model.specs.declared.receipt.Receipt.{Receipt}
 use Rattle.entry_model.specs.Trial.{Call, call, Plan, plan_of_code}
 use Rattle.hpte_fields.specs.Fields.{normal_words}
@@ -30,12 +29,13 @@ use Rattle.page_grants.specs.Suited.{suits_grants, suited_words, entered_words}
 use Rattle.call_plan.specs.Checks.{words_plan, h_enter_plan}
 use Rattle.call_plan.proofs.Tame.{h_bulk_remove_each}
 use Rattle.call_plan.specs.Single.{single_plan, h_remove_plan, h_protect_plan, h_clear_ref_plan, h_clear_mod_plan, read_entries, h_read_plan}
-use Rattle.call_plan.specs.Bulk.{Pair, pairs_of, type_of, flags_of, index_of, test_by, removes_under, asked_by, calls_before, bulk_calls, h_bulk_remove_plan}
+use Rattle.call_plan.specs.Bulk.{pairs_of, h_bulk_remove_plan}
 use Rattle.run_model.specs.StoreContexts.{StoreContext}
 use Rattle.run_model.specs.LineReplies.{put_plan, get_plan, hcall_plan}
-use Rattle.history_check.specs.Steps.{no_test, step_op, unless_worn, ops_of}
+use Rattle.history_check.specs.Steps.{step_op, unless_worn, ops_of}
 use Rattle.history_check.specs.PlacedSteps.{enter_op, tce_op, call_op}
 use Rattle.history_check.proofs.Alike.{is_store_access, either_P, changed_after, where_after}
+use Rattle.call_plan.proofs.RemovalCalls.{calls_few, pairs_few}
 
 -- ---- what is kept
 -- The operation is a store or none, and however it is answered, what is kept of it is what is told
@@ -238,38 +238,9 @@ read_few order flags ptex =
           (range_with_len ptex 1)
           (λ (l : List ℕ). length l ≤ 16) (λ _. omega arith) (λ _. omega arith)
 
-under_few :
-    (entry : ℕ) (test : Option Test) (rest : List Call)
-    → length (calls_before (removes_under entry test) rest) ≤ length rest + 1
-under_few entry None rest = omega arith
-under_few entry (Some test) rest = omega arith
-
-before_few :
-    (order : ℕ) (p : Pair) (rest : List Call)
-    → length (calls_before (asked_by order p) rest) ≤ length rest + 1
-unfolding asked_by
-before_few order p rest =
-    cond_both (type_of p.request == 3) _ _
-    (λ asks. length (calls_before asks rest) ≤ length rest + 1) (λ _. omega arith)
-    (λ _.
-    cond_both ((type_of p.request == 1) && nat_lt (index_of p.request) (entry_count order)) _ _
-    (λ asks. length (calls_before asks rest) ≤ length rest + 1)
-    (λ _. under_few (index_of p.request) (test_by (flags_of p.request) p.word) rest)
-    (λ _. omega arith))
-
-bulk_few : (order : ℕ) (ps : List Pair) → length (bulk_calls order ps) ≤ length ps
-unfolding bulk_calls
-bulk_few order [] = omega arith
-bulk_few order (p ∷ ps) = omega (arith, before_few order p (bulk_calls order ps), bulk_few order ps)
-
-pairs_few : (words : List ℕ) → length (pairs_of words) ≤ length words
-pairs_few [] = omega arith
-pairs_few (a ∷ []) = omega arith
-pairs_few (a ∷ b ∷ words) = omega (arith, pairs_few words)
-
 remove_few : (order : ℕ) (words : List ℕ) → length words ≤ 16 → Few (h_bulk_remove_plan order words)
 unfolding h_bulk_remove_plan
-remove_few order words h = omega (arith, h, bulk_few order (pairs_of words), pairs_few words)
+remove_few order words h = omega (arith, h, calls_few order (pairs_of words), pairs_few words)
 
 put_at_few :
     (grants : List Grant) (tce : ℕ) (entry : Option ℕ)

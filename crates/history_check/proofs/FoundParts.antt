@@ -15,7 +15,7 @@ use Rattle.run_model.specs.AllStores.{WindowState, AllStores, as_store, windows_
 use Rattle.run_model.specs.Sections.{section_end, states_behind}
 use Rattle.run_model.specs.StoreNumbers.{store_at, AreNamed, lines_on_store}
 use Rattle.run_model.specs.Stores.{Store, states_of, is_on, is_on_window, lines_on, trace_lines_on}
-use Rattle.run_model.proofs.Each.{each_filter}
+use Rattle.basics.proofs.Each.{each_filter}
 use Rattle.run_model.proofs.StoreLines.{lines_back, kinds_each, kinds_back}
 use Rattle.run_model.proofs.StoreNumbers.{same_count, window_at, store_inside, numbered, replied_numbered, lines_numbered}
 use Rattle.run_model.specs.Quiet.{NoneQuiet}

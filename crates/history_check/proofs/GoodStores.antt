@@ -20,7 +20,7 @@ use Rattle.run_model.specs.SideBySide.{stores_behind as behind_all}
 use Rattle.run_model.specs.StoreNumbers.{store_at}
 use Rattle.run_model.specs.Stores.{Store, states_of, page_table, opening_stores, plain_store, window_store, lines_on, is_on, is_on_window}
 use Rattle.run_model.proofs.CallLines.{AllQuiet, cut_quiet}
-use Rattle.run_model.proofs.Each.{each_at, each_by_index}
+use Rattle.basics.proofs.Each.{each_at, each_by_index}
 use Rattle.run_model.proofs.SectionGood.{quiet_size, section_good}
 use Rattle.run_model.proofs.SideBySide.{side_by_side}
 use Rattle.run_model.proofs.StoreLines.{quiet_on_table, quiet_off_window}
@@ -31,6 +31,7 @@ use Rattle.history_check.specs.FoundSection.{Opening, opening_of, IsGoodOn}
 use Rattle.history_check.specs.FoundStores.{windows_of, lines_at, AreGoodOn, stores_behind, run_quiet_on}
 
 -- ---- parts
+-- The lines of a run before its first quiet line, and each quiet line with those behind it.
 abbrev pub Parts : Type 0
 Parts = List RepliedLine × List QuietPart
 

@@ -75,15 +75,6 @@ told_at o o' ls ls' text text' found states processors same lines words h =
     (λ (z : Opening × List TraceLine × List ℕ).
     TellsSection z.0 z.1 z.2 found states processors) (λ i. (same i, lines i, words i)) h
 
-pub some_found :
-    (o : Opening) (ls : List TraceLine) (text : List ℕ) (found : Option ℕ) (states : List State)
-    (processors : List Processor)
-    → TellsSection o ls text found states processors
-    → is_some found ≡ true
-    → (n : ℕ) × (later : List Processor) × HasSection o ls text n states later
-some_found o ls text (Some n) states processors h e = (n, processors, h.1)
-some_found o ls text None states processors h e = absurd (let clash : false ≡ true = e in cc)
-
 pub none_found :
     (o : Opening) (ls : List TraceLine) (text : List ℕ) (found : Option ℕ) (states : List State)
     (processors : List Processor)

@@ -16,7 +16,7 @@ use Rattle.hpt_resize.specs.TableMemory.{opening_memory}
 use Rattle.run_model.specs.Stores.{page_table}
 use Rattle.run_model.specs.Sections.{section_end}
 use Rattle.run_model.specs.AllStores.{AllStores, opening_all}
-use Rattle.run_model.proofs.Each.{each_front, each_back}
+use Rattle.basics.proofs.Each.{each_front, each_back}
 use Rattle.run_model.proofs.SerialGood.{quiet_kind, opening_processors}
 use Rattle.history_check.specs.declared.verdict.Verdict.TheVariants as verdicts
 use Rattle.history_check.specs.Verdict.{lines_to, trace_to, section_count, BeginsGood, IsGoodText, SectionStands, IsVerdict}
@@ -118,6 +118,8 @@ bad_next t text k b few none = (
 )
 
 -- ---- where the loop stands
+-- Behind k quiet lines the judge's loop has these stores, lines and text before it: what explains
+-- them explains the text from its start, and stores and lines keep their limits.
 pub record AtSection (t : AcceptedTrace) (text : List ℕ) (k : ℕ) (w : AllStores)
     (ns : List TraceLine) (y : List ℕ) :
     Type 0 where

@@ -13,7 +13,7 @@ use Rattle.run_model.specs.AllStores.{WindowState, AllStores, as_store, windows_
 use Rattle.run_model.specs.Sections.{section_end, states_behind}
 use Rattle.run_model.specs.StoreNumbers.{store_at, AreNamed, lines_on_store}
 use Rattle.run_model.specs.Stores.{Store, states_of, is_on, is_on_window, lines_on}
-use Rattle.run_model.proofs.Each.{each_passes}
+use Rattle.basics.proofs.Each.{each_passes}
 use Rattle.run_model.proofs.SectionGood.{closes}
 use Rattle.run_model.proofs.SectionChain.{closed_number}
 use Rattle.run_model.proofs.StoreNumbers.{window_at, table_changed, window_changed, window_others, lines_numbered}

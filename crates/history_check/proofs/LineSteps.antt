@@ -37,7 +37,7 @@ use Rattle.trace_reply.specs.declared.reply.Reply.TheVariants as replies
 use Rattle.trace_reply.specs.Replies.{receipts_in}
 use Rattle.run_model.specs.LineReplies.{hcall_plan, IsDeviceLine, IsCallReply, IsReplyToAccess}
 use Rattle.run_model.specs.StoreContexts.{StoreContext, access_of}
-use Rattle.run_model.proofs.Each.{each_append}
+use Rattle.basics.proofs.Each.{each_append}
 use Rattle.receipt_text.specs.Receipts.{mark_of}
 use Rattle.history_check.specs.ReplyMarks.{marks_in}
 use Rattle.history_check.specs.Steps.{step_op, unless_worn, place_by, ops_of}
@@ -45,6 +45,7 @@ use Rattle.history_check.specs.PlacedSteps.{placed_step, placed_mark, named_ops,
 use Rattle.history_check.proofs.Alike.{is_store_access}
 use Rattle.history_check.proofs.SectionFixed.{place_is}
 use Rattle.history_check.proofs.CallSteps.{Keeps, AllKeep, keeps, each_keeps, plan_keeps}
+use Rattle.run_model.proofs.StoreLines.{dump_is_quiet}
 
 -- ---- trials
 -- a receipt's step, by its mark and its line
@@ -232,6 +233,8 @@ device_shows grants ioba write act d (Some entry) none read h = record {
 }
 
 -- ---- any line
+-- The marks of a reply show the steps and places of its receipts, and are no more than sixteen, or
+-- than the operations that the line names.
 pub record LineShows (context : StoreContext) (act : Act) (r : Reply) : Type 0 where
   pub steps : map placed_step (receipts_in r) ≡ placed_line act (marks_in r)
   pub few : (length (marks_in r) ≤ 16) ⊎ (length (marks_in r) ≤ length (named_ops context act))
@@ -255,10 +258,6 @@ window_shows context (Some w) write liobn ioba (replies.Access d) h = absurd h
 window_shows context (Some w) write liobn ioba (replies.Segment d) h = absurd h
 window_shows context (Some w) write liobn ioba replies.MaskSet h = absurd h
 window_shows context (Some w) write liobn ioba (replies.Dump d) h = absurd h
-
-dump_is_quiet : is_quiet acts.Dump ≡ false → ⊥
-unfolding is_quiet
-dump_is_quiet h = cc
 
 pub line_shows :
     (context : StoreContext) (p : Processor) (act : Act) (r : Reply)
@@ -305,4 +304,4 @@ line_shows context p (acts.SetMask name value) r n call access =
     (record { steps = refl; few = inl (omega arith) })
 line_shows context p (acts.Device write liobn ioba) r n call access =
     window_shows context context.window write liobn ioba r call
-line_shows context p acts.Dump r n call access = absurd (dump_is_quiet n)
+line_shows context p acts.Dump r n call access = absurd (dump_is_quiet acts.Dump refl n)

@@ -4,7 +4,7 @@ use Rattle.std.proofs.Common.{◌≡◌, ℕ, suc, ◌+◌, ◌<◌, ◌≤◌, 
 use Rattle.std.proofs.lemmas.List.{length-append, length-map, map-append}
 use Rattle.trace_line.specs.declared.line.TraceLine.{TraceLine}
 use Rattle.trace_line.specs.declared.act.Act.{Act}
-use Rattle.run_model.proofs.Each.{each_append}
+use Rattle.basics.proofs.Each.{each_append}
 use Rattle.receipt_text.specs.declared.mark.Mark.{Mark}
 use Rattle.history_check.specs.PlacedSteps.{PlacedStep, AreInTable, line_op, placed_mark, placed_line}
 use Rattle.history_check.specs.OrderedSteps.{IsStepOf, numbered, numbered_by, act_at}

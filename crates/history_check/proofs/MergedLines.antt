@@ -6,7 +6,7 @@ use Rattle.trace_line.specs.declared.act.Act.{Act}
 use Rattle.trace_line.specs.declared.line.TraceLine.{TraceLine}
 use Rattle.trace_reply.specs.Replies.{RepliedLine}
 use Rattle.run_model.specs.StoreNumbers.{store_of, lines_on_store, replied_on_store}
-use Rattle.run_model.proofs.Each.{filter_yes, filter_no}
+use Rattle.basics.proofs.Each.{filter_yes, filter_no}
 use Rattle.history_check.proofs.PartedTexts.{lines_in}
 
 line_head :

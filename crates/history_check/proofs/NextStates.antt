@@ -1,7 +1,7 @@
 -- The state after a receipt, by the state before, the answer, and the operation of its step.
 use Rattle.std.specs.Prelude.{if◌then◌else◌, ◌==◌, ◌&&◌, ◌||◌}
 use Rattle.std.proofs.Common.{◌≡◌, ℕ, Bool, true, false, ap, sym, ◌∙◌, refl, ◌⊎◌, inl, inr}
-use Rattle.std.proofs.lemmas.Bool.{and_parts, cases_Bool}
+use Rattle.std.proofs.lemmas.Bool.{and_parts, cases_Bool, or_parts}
 use Rattle.storage_prot.specs.declared.want.Want.{Want}
 use Rattle.hpte_fields.specs.Fields.{protected_word}
 use Rattle.entry_model.specs.State.{State, empty_state}
@@ -11,9 +11,9 @@ use Rattle.entry_model.specs.declared.operation.Answer.TheVariants as answers
 use Rattle.entry_model.specs.declared.operation.Op.{Op}
 use Rattle.entry_model.specs.declared.operation.Op.TheVariants as ops
 use Rattle.entry_model.specs.declared.receipt.Receipt.{Receipt}
-use Rattle.entry_model.specs.Receipt.{after_of, is_at, is_worn}
-use Rattle.entry_model.specs.Reply.{reply_of, compared_bits, has_base, is_match, is_allowed, access_mode, answer_of_match, answer_of_allowed, masks_refuse, answer_of_access, touched_state, change_to, change_where, entered_state, is_found}
-use Rattle.history_check.specs.Steps.{no_test, step_op, unless_worn, raises_stamp, next_by}
+use Rattle.entry_model.specs.Receipt.{after_of, is_at, is_worn, is_change}
+use Rattle.entry_model.specs.Reply.{reply_of, compared_bits, has_base, is_match, is_allowed, access_mode, answer_of_match, answer_of_allowed, masks_refuse, answer_of_access, touched_state, change_to, change_where, entered_state, is_found, no_test}
+use Rattle.history_check.specs.Steps.{step_op, unless_worn, next_by}
 use Rattle.authority_mask.specs.declared.masks.Masks.{Masks}
 
 abbrev IsNext : State → Want → Answer × State → Type 0
@@ -53,11 +53,11 @@ access_next s t b k n w masks =
 -- ---- other operations
 -- The change was made, where the answer says so.
 abbrev IsChange : State → Answer × State → Answer × State → Type 0
-IsChange s y x = x.1 ≡ (if raises_stamp x.0 then y.1 else s)
+IsChange s y x = x.1 ≡ (if is_change x.0 then y.1 else s)
 
 changed_next :
     (s : State) (answer : Answer) (next : State)
-    → raises_stamp answer ≡ true
+    → is_change answer ≡ true
     → IsChange s (change_to s answer next) (change_to s answer next)
 changed_next s answer next up = at (cases_Bool (s.stamp == 0xFFFFFFFF)) where
   at :
@@ -77,7 +77,7 @@ entered_next false s x h = h
 -- an entry that passes a test is valid
 where_next :
     (found valid : Bool) (s : State) (answer : Answer) (next : State)
-    → raises_stamp answer ≡ true
+    → is_change answer ≡ true
     → (found ≡ true → valid ≡ true)
     → IsChange s (change_where valid s answer next) (change_where found s answer next)
 where_next false valid s answer next up h = refl
@@ -107,18 +107,13 @@ next_of s ops.ClearMod =
 next_is : (r : Receipt) → after_of r ≡ next_by (step_op r.op) r.answer r.before
 next_is r = next_of r.before r.op ∙ ap (λ a. next_by (step_op r.op) a r.before) (sym r.lawful)
 
--- no other answer tells of a change
-neither : (a b : Bool) → (a || b) ≡ false → (a ≡ false) × (b ≡ false)
-neither false b h = (refl, h)
-neither true b h = cc
-
 pub unchanged_next :
     (op : Op) (answer : Answer) (s : State)
-    → (raises_stamp answer || is_at answer) ≡ false
+    → (is_change answer || is_at answer) ≡ false
     → s ≡ next_by op answer s
 unfolding next_by
-unchanged_next op answer s h = at op (neither (raises_stamp answer) (is_at answer) h) where
-  at : (op : Op) → (raises_stamp answer ≡ false) × (is_at answer ≡ false) → s ≡ next_by op answer s
+unchanged_next op answer s h = at op (or_parts (is_change answer) (is_at answer) h) where
+  at : (op : Op) → (is_change answer ≡ false) × (is_at answer ≡ false) → s ≡ next_by op answer s
   at (ops.Access t b k n w masks) both = rw both.1 refl
   at (ops.Enter a b) both = rw both.0 refl
   at (ops.Remove test) both = rw both.0 refl
@@ -128,12 +123,12 @@ unchanged_next op answer s h = at op (neither (raises_stamp answer) (is_at answe
   at ops.ClearMod both = rw both.0 refl
 
 pub unchanged_after :
-    (r : Receipt) → (raises_stamp r.answer || is_at r.answer) ≡ false → r.before ≡ after_of r
+    (r : Receipt) → (is_change r.answer || is_at r.answer) ≡ false → r.before ≡ after_of r
 unchanged_after r h = unchanged_next (step_op r.op) r.answer r.before h ∙ sym (next_is r)
 
 -- what an answer keeps of an operation makes the change
 worn_still :
-    (answer : Answer) → is_worn answer ≡ true → (raises_stamp answer || is_at answer) ≡ false
+    (answer : Answer) → is_worn answer ≡ true → (is_change answer || is_at answer) ≡ false
 worn_still answers.Worn h = refl
 worn_still other h = cc
 

@@ -22,7 +22,7 @@ use Rattle.run_model.specs.AllStores.{AllStores}
 use Rattle.run_model.specs.StoreNumbers.{store_at}
 use Rattle.run_model.specs.Stores.{is_on}
 use Rattle.run_model.specs.GoodRun.{EachLineOfProcessor, IsAccessLine}
-use Rattle.run_model.proofs.Each.{each_append, each_front, each_back, each_filter}
+use Rattle.basics.proofs.Each.{each_append, each_front, each_back, each_filter}
 use Rattle.history_check.specs.ReplyMarks.{ShowsSame}
 use Rattle.history_check.specs.FoundSection.{Opening, opening_of, section_on, IsGoodOn, closing_of, IsGoodTo}
 use Rattle.history_check.specs.FoundStores.{windows_of, AreGoodOn}
@@ -32,29 +32,37 @@ use Rattle.history_check.proofs.ByStore.{each_by_store, filter_map}
 use Rattle.history_check.proofs.GoodStores.{each_size}
 
 -- ---- a line with two replies
+-- A line of a trace with two replies to it, one of each of two runs.
 pub record Twice : Type 0 where
   pub line : TraceLine
   pub one : Reply
   pub two : Reply
 
+-- The line with the first of its replies.
 abbrev pub first : Twice → RepliedLine
 first p = record { line = p.line; reply = p.one }
 
+-- The line with the second of its replies.
 abbrev pub second : Twice → RepliedLine
 second p = record { line = p.line; reply = p.two }
 
+-- The lines, each with its first reply.
 abbrev pub ones : List Twice → List RepliedLine
 ones ps = map first ps
 
+-- The lines, each with its second reply.
 abbrev pub twos : List Twice → List RepliedLine
 twos ps = map second ps
 
+-- The two replies to each line show the same marks and the same way.
 abbrev pub Shown : List Twice → Type 0
 Shown ps = AllByRecursion (λ p. ShowsSame p.one p.two) ps
 
+-- None of the lines is quiet.
 abbrev pub Plain : List Twice → Type 0
 Plain ps = AllByRecursion (λ p. is_quiet p.line.act ≡ false) ps
 
+-- The two replies to each line are the same one.
 abbrev pub AllSame : List Twice → Type 0
 AllSame ps = AllByRecursion (λ p. p.one ≡ p.two) ps
 

@@ -176,6 +176,7 @@ pub record IsPlainReply (t : RepliedLine) : Type 0 where
   pub plain : is_quiet t.line.act ≡ false
   pub kind : IsOfKind t.line.act t.reply
 
+-- None of the lines is quiet, and each reply is of its line's kind.
 abbrev pub ArePlainReplies : List RepliedLine → Type 0
 ArePlainReplies ts = AllByRecursion IsPlainReply ts
 
@@ -238,6 +239,7 @@ tells_text (t ∷ ts) text h =
 abbrev passed : (Act → Bool) → List RepliedLine → List RepliedLine
 passed f ts = filter (λ (t : RepliedLine). f t.line.act) ts
 
+-- The lines without their replies.
 abbrev pub lines_in : List RepliedLine → List TraceLine
 lines_in ts = map (λ (t : RepliedLine). t.line) ts
 

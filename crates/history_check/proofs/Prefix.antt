@@ -15,6 +15,7 @@ use Rattle.history_check.specs.FoundStores.{AreGoodOn}
 use Rattle.history_check.specs.Verdict.{with_lines}
 use Rattle.history_check.proofs.GoodStores.{Parts, AllGood, next_stores, store_empty, parts_good, good_parts}
 
+-- A run that is cut, with these further quiet lines, and the lines behind each, at its end.
 abbrev pub with_rest : Parts → List QuietPart → Parts
 with_rest x zs = (x.0, x.1 ++ zs)
 

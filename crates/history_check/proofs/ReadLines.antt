@@ -4,11 +4,11 @@ use Rattle.std.specs.List.{AllByRecursion}
 use Rattle.std.proofs.lemmas.List.{take_more, drop_more, drop_all, take_all, length-map, map-append, length-take-le, get_or_default}
 use Rattle.run_model.specs.StoreContexts.{StoreContext}
 use Rattle.trace_line.specs.declared.line.TraceLine.{TraceLine}
-use Rattle.trace_line.specs.Lines.{is_quiet}
+use Rattle.trace_line.specs.Lines.{is_quiet, past_lines}
 use Rattle.trace_reply.specs.declared.reply.Reply.{Reply}
 use Rattle.trace_reply.specs.Replies.{lines_with_replies, receipts_in}
 use Rattle.reply_text.specs.Text.{reply_text}
-use Rattle.run_model.proofs.Each.{each_append, each_back}
+use Rattle.basics.proofs.Each.{each_append, each_back}
 use Rattle.receipt_text.specs.declared.mark.Mark.{Mark}
 use Rattle.receipt_text.specs.Receipts.{mark_of, receipts_text}
 use Rattle.receipt_text.specs.Cuts.{lacks}
@@ -20,7 +20,7 @@ use Rattle.history_check.specs.declared.mark_steps.LineStep.{LineStep}
 use Rattle.run_model.specs.Quiet.{NoneQuiet}
 use Rattle.history_check.specs.FoundSection.{lines_text}
 use Rattle.history_check.specs.PlacedSteps.{named_ops}
-use Rattle.history_check.specs.OrderedSteps.{IsStepOf, past_lines, numbered_by}
+use Rattle.history_check.specs.OrderedSteps.{IsStepOf, numbered_by}
 use Rattle.history_check.specs.MarkSteps.{mark_steps, lines_steps}
 use Rattle.history_check.specs.ReplyMarks.{marks_in}
 use Rattle.history_check.specs.SectionMarks.{ShowMarks, MarkEntries, ReadMarks, NoMarks}
@@ -38,6 +38,8 @@ pub record AreLeft (context : StoreContext) (more : List TraceLine) (rest : List
   pub same : map marks_in front ≡ read
   pub show : ShowMarks context more rest back end
 
+-- The steps and counts of the first i lines' marks were read, on entries of a table of this size.
+-- Any replies with which the text begins have these marks first, and the rest has the others.
 pub record AreReadTo (context : StoreContext) (size : ℕ) (ls : List TraceLine) (text : List ℕ)
     (i : ℕ) (rest : List ℕ) (read : List LineStep) (sizes : List ℕ) :
     Type 0 where
@@ -51,19 +53,6 @@ pub record AreReadTo (context : StoreContext) (size : ℕ) (ls : List TraceLine)
       (rs : List Reply) (end : List ℕ)
       → ShowMarks context ls text rs end
       → AreLeft context (drop i ls) rest marks rs end
-
-pub none_read :
-    (context : StoreContext) (size : ℕ) (ls : List TraceLine) (text : List ℕ)
-    → AreReadTo context size ls text 0 text [] []
-none_read context size ls text = record {
-  marks = [];
-  each = refl;
-  steps = refl;
-  counts = refl;
-  in_table = tt;
-  few = omega arith;
-  left = λ rs end show. record { front = []; back = rs; all = refl; same = refl; show = show };
-}
 
 -- ---- the next line
 -- The next line's reply: the text begins with its line, which has its marks.

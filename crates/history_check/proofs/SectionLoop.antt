@@ -128,6 +128,7 @@ over context closing states qs G text [] rest later z = z.stand
 over context closing states qs G text (r ∷ rs) rest later z = absurd z.stand
 
 -- ---- as the loop has them
+-- What is left to judge of a section, from the i-th line and count on, decides of it both ways.
 abbrev pub Left :
     StoreContext
     → List State

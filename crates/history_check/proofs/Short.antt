@@ -30,7 +30,7 @@ use Rattle.run_model.specs.QuietLines.{run_resize, run_quiet_line}
 use Rattle.run_model.specs.Histories.{receipts_by}
 use Rattle.run_model.specs.Sections.{section_end}
 use Rattle.run_model.specs.Sections.{Section, made_in}
-use Rattle.run_model.proofs.Each.{each_map, each_at, each_both, each_of_map, each_front, each_back}
+use Rattle.basics.proofs.Each.{each_map, each_at, each_both, each_of_map, each_front, each_back}
 use Rattle.run_model.proofs.Memories.{IsAllowed, MemoryStands, memory_prepared, memory_committed, opening_stands}
 use Rattle.run_model.proofs.OpeningEntries.{each_opening}
 use Rattle.run_model.proofs.LowStamps.{each_from_histories, each_state, closed_size}
@@ -41,12 +41,15 @@ use Rattle.entry_model.proofs.Regroup.{regrouped_back}
 use Rattle.history_check.proofs.TextMarks.{IsShort, AreShort}
 use Rattle.history_check.specs.FoundSection.{closing_of, IsLegalTo}
 
+-- The state's stamp fits in 32 bits.
 abbrev pub IsLow : State → Type 0
 IsLow s = s.stamp < 2 ^ 32
 
+-- The stamps of these states fit in 32 bits.
 abbrev pub LowStates : List State → Type 0
 LowStates states = AllByRecursion IsLow states
 
+-- The store's tables have sizes that tables may have, and the stamps of its entries fit in 32 bits.
 pub record IsPlain (w : Store) : Type 0 where
   pub memory : MemoryStands w.memory
   pub high : w.memory.table.order ≤ greatest_order

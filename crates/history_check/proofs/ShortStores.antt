@@ -11,7 +11,7 @@ use Rattle.run_model.specs.AllStores.{WindowState, AllStores, opened, as_store, 
 use Rattle.run_model.specs.Sections.{Section, made_in, states_behind}
 use Rattle.run_model.specs.StoreNumbers.{store_at}
 use Rattle.run_model.specs.Stores.{Store, is_on, is_on_window, opening_window, lines_on, states_of}
-use Rattle.run_model.proofs.Each.{each_filter, each_replicate, each_of_map}
+use Rattle.basics.proofs.Each.{each_filter, each_replicate, each_of_map}
 use Rattle.run_model.proofs.LinesByProcessor.{Cpus}
 use Rattle.run_model.proofs.OneProcessor.{closing_size}
 use Rattle.run_model.proofs.SectionGood.{OnCpus}

@@ -1,18 +1,18 @@
 -- Making steps in an order, one after the other.
 use Rattle.std.specs.List.{AllByRecursion}
 use Rattle.std.specs.Prelude.{◌||◌}
-use Rattle.std.proofs.Common.{◌≡◌, ℕ, zero, suc, false, arith, ◌+◌, ◌<◌, ◌≤◌, List, [], ◌∷◌, length, length-set, drop, get_or, set, map, ap, sym, ◌∙◌, refl, subst}
+use Rattle.std.proofs.Common.{◌≡◌, ℕ, zero, suc, false, arith, ◌+◌, ◌<◌, List, [], ◌∷◌, length, length-set, drop, get_or, set, map, ap, sym, ◌∙◌, refl, subst}
 use Rattle.std.proofs.lemmas.List.{drop_more, get_or_default}
 use Rattle.entry_model.specs.State.{State, empty_state}
-use Rattle.entry_model.specs.Receipt.{is_at}
+use Rattle.entry_model.specs.Receipt.{is_at, is_change}
 use Rattle.entry_model.specs.Run.{state_at}
 use Rattle.trace_line.specs.declared.line.TraceLine.{TraceLine}
 use Rattle.history_check.specs.declared.mark_steps.LineStep.{LineStep}
-use Rattle.history_check.specs.Steps.{raises_stamp, next_by, after_step}
+use Rattle.history_check.specs.Steps.{next_by, after_step}
 use Rattle.history_check.specs.PlacedSteps.{line_op}
-use Rattle.history_check.specs.OrderedSteps.{IsStepOf, act_at, past_lines, numbered_by, found_in_order, ending_in_order, with_written, AreWritten}
-use Rattle.history_check.proofs.ListedStates.{past_end}
+use Rattle.history_check.specs.OrderedSteps.{IsStepOf, act_at, numbered_by, found_in_order, ending_in_order, with_written}
 use Rattle.history_check.proofs.NextStates.{unchanged_next}
+use Rattle.trace_line.specs.Lines.{past_lines}
 
 -- The steps that are left, made from here on, find and leave what all of them do from the first
 -- states on.
@@ -114,7 +114,7 @@ pub step_kept :
     (states found : List State) (d : LineStep) (s : State)
     → i < length order
     → s ≡ get_or states (get_or order i d).entry s
-    → (raises_stamp (get_or order i d).answer || is_at (get_or order i d).answer) ≡ false
+    → (is_change (get_or order i d).answer || is_at (get_or order i d).answer) ≡ false
     → AreMade ls a order i states found
     → AreMade ls a order (i + 1) states (set found (get_or order i d).index s)
 step_kept ls a order i states found d s low before still h =
@@ -125,29 +125,3 @@ step_kept ls a order i states found d s low before still h =
     (step_made ls a order i states found d past_lines s s low before
     (unchanged_next (line_op (get_or ls x.line past_lines).act x.answer) x.answer s still)
     h)
-
--- all steps
-pub all_found :
-    (ls : List TraceLine) (a : List State) (order : List LineStep) (i : ℕ)
-    (states found : List State)
-    → length order ≤ i
-    → AreMade ls a order i states found
-    → AreWritten (length order) (found_in_order a (map (numbered_by ls) order)) found
-all_found ls a order i states found past h =
-    record {
-      first = h.first;
-      size = h.blank;
-      written =
-          ap (λ z. with_written found (found_in_order states (map (numbered_by ls) z)))
-          (sym (past_end order i past))
-          ∙ h.told;
-    }
-
-pub all_ended :
-    (ls : List TraceLine) (a : List State) (order : List LineStep) (i : ℕ)
-    (states found : List State)
-    → length order ≤ i
-    → AreMade ls a order i states found
-    → states ≡ ending_in_order a (map (numbered_by ls) order)
-all_ended ls a order i states found past h =
-    ap (λ z. ending_in_order states (map (numbered_by ls) z)) (sym (past_end order i past)) ∙ h.end

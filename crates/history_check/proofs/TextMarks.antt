@@ -37,6 +37,7 @@ pub record IsShort (r : Receipt) : Type 0 where
   pub entry : r.entry < 2 ^ 32
   pub stamp : r.before.stamp < 2 ^ 32
 
+-- Each receipt's entry, and the stamp that it found, fit in 32 bits.
 abbrev pub AreShort : List Receipt → Type 0
 AreShort rs = AllByRecursion IsShort rs
 

@@ -18,7 +18,7 @@ use Rattle.run_model.specs.LineReplies.{IsCallReply, IsReplyToAccess}
 use Rattle.run_model.specs.Histories.{InOrder, receipts_by, lines_of_processor, events_by}
 use Rattle.run_model.specs.GoodRun.{EachLineOfProcessor, IsAccessLine}
 use Rattle.entry_model.proofs.Regroup.{regrouped_back}
-use Rattle.run_model.proofs.Each.{each_front, each_back}
+use Rattle.basics.proofs.Each.{each_front, each_back}
 use Rattle.run_model.proofs.SectionGood.{each_regrouped}
 use Rattle.run_model.proofs.SerialParallel.{front_of}
 use Rattle.run_model.proofs.LinesByProcessor.{Cpus, InFileOrder, own_lines, file_lines, file_listed, own_processors}

@@ -1,15 +1,15 @@
 -- Steps with their numbers, sorted by place, and the states that they find written at their
 -- numbers.
-use Rattle.std.specs.Prelude.{◌≡◌, ℕ, ◌+◌, ◌<◌, false, List, [], ◌∷◌, length, map, slice_index_or, slice_set, IsPermutation}
+use Rattle.std.specs.Prelude.{◌≡◌, ℕ, ◌+◌, ◌<◌, List, [], ◌∷◌, length, map, slice_index_or, slice_set, IsPermutation}
 use Rattle.std.specs.List.Sorted.{IsNonDecreasingBy}
 use Rattle.entry_model.specs.State.{State}
 use Rattle.entry_model.specs.Run.{state_at}
 use Rattle.trace_line.specs.declared.line.TraceLine.{TraceLine}
 use Rattle.trace_line.specs.declared.act.Act.{Act}
-use Rattle.trace_line.specs.declared.act.Act.TheVariants.{Call}
 use Rattle.history_check.specs.declared.mark_steps.LineStep.{LineStep}
 use Rattle.history_check.specs.Steps.{after_step, ending_states}
 use Rattle.history_check.specs.PlacedSteps.{PlacedStep, line_op}
+use Rattle.trace_line.specs.Lines.{past_lines}
 
 -- ---- numbers
 -- A step, and which of the steps it is.
@@ -21,11 +21,6 @@ pub record Numbered : Type 0 where
 abbrev pub numbered : ℕ → List PlacedStep → List Numbered
 numbered i [] = []
 numbered i (x ∷ xs) = record { index = i; placed = x } ∷ numbered (i + 1) xs
-
--- ---- steps of lines
--- What lines hold past their end.
-abbrev pub past_lines : TraceLine
-past_lines = record { number = 0; cpu = 0; act = Call 0 [] false }
 
 -- What the line of this number asks.
 abbrev pub act_at : List TraceLine → ℕ → Act

@@ -11,7 +11,7 @@ use Rattle.entry_model.specs.declared.operation.Answer.{Answer}
 use Rattle.entry_model.specs.declared.operation.Answer.TheVariants.{Entered, Taken}
 use Rattle.entry_model.specs.declared.receipt.Receipt.{Receipt}
 use Rattle.entry_model.specs.History.{place}
-use Rattle.entry_model.specs.Reply.{is_store}
+use Rattle.entry_model.specs.Reply.{is_store, no_test}
 use Rattle.dma_window.specs.Entries.{first_word, second_word}
 use Rattle.run_model.specs.StoreContexts.{StoreContext}
 use Rattle.hpte_fields.specs.Fields.{normal_words}
@@ -22,7 +22,7 @@ use Rattle.trace_line.specs.declared.act.Act.{Act}
 use Rattle.trace_line.specs.declared.act.Act.TheVariants as acts
 use Rattle.run_model.specs.LineReplies.{hcall_plan}
 use Rattle.receipt_text.specs.declared.mark.Mark.{Mark}
-use Rattle.history_check.specs.Steps.{Step, no_test, step_of, unless_worn, place_by, ops_of, found_states, ending_states}
+use Rattle.history_check.specs.Steps.{Step, step_of, unless_worn, place_by, ops_of, found_states, ending_states}
 
 -- ---- operations of lines
 -- The operations that a line names one by one: those of a hypervisor call.

@@ -7,6 +7,7 @@ use Rattle.entry_model.specs.declared.receipt.Receipt.{Receipt}
 use Rattle.entry_model.specs.Receipt.{is_decided}
 use Rattle.entry_model.specs.CachedLines.{ShowsLine}
 use Rattle.history_check.specs.Replay.{ReplayState, after_receipt, IsReplayed, IsSeen}
+use Rattle.std.proofs.lemmas.Bool.{or_right}
 
 -- Receipts replayed one list after the other are replayed as one list.
 pub made_more :
@@ -25,10 +26,6 @@ order_stays a b (x ∷ xs) h = order_stays (after_receipt a x) b xs h.2
 or_left : (a b : Bool) → a ≡ true → (a || b) ≡ true
 or_left true b h = refl
 or_left false b h = cc
-
-or_right : (a b : Bool) → b ≡ true → (a || b) ≡ true
-or_right true b h = refl
-or_right false b h = h
 
 -- an answer that used a translation is not forgotten
 decided_stays :

@@ -1,25 +1,19 @@
 -- Receipts without their states before: what they make of states that nobody else changes.
-use Rattle.std.specs.Prelude.{ℕ, ◌+◌, ◌*◌, ◌==◌, ◌&&◌, ◌||◌, List, [], ◌∷◌, map, Bool, true, false, None, if◌then◌else◌, nat_le, slice_set}
+use Rattle.std.specs.Prelude.{ℕ, ◌+◌, ◌*◌, ◌==◌, ◌&&◌, ◌||◌, List, [], ◌∷◌, map, Bool, true, false, if◌then◌else◌, nat_le, slice_set}
 use Rattle.basics.specs.Words.{bool_eq}
 use Rattle.entry_model.specs.State.{State}
 use Rattle.authority_mask.specs.Authority.{no_masks}
 use Rattle.entry_model.specs.declared.operation.Op.{Op}
 use Rattle.entry_model.specs.declared.operation.Op.TheVariants.{Access, Remove, Protect, Read}
-use Rattle.entry_model.specs.declared.operation.Test.{Test}
 use Rattle.entry_model.specs.declared.operation.Answer.{Answer}
-use Rattle.entry_model.specs.declared.operation.Answer.TheVariants.{Entered, Removed, Protected, Was}
 use Rattle.entry_model.specs.declared.receipt.Receipt.{Receipt}
-use Rattle.entry_model.specs.Receipt.{is_at, is_worn}
-use Rattle.entry_model.specs.Reply.{reply_of, touched_state}
+use Rattle.entry_model.specs.Receipt.{is_at, is_worn, is_change}
+use Rattle.entry_model.specs.Reply.{reply_of, touched_state, no_test}
 use Rattle.entry_model.specs.Run.{state_at}
 use Rattle.entry_model.specs.Trial.{Call}
 use Rattle.receipt_text.specs.declared.mark.Mark.{Mark}
 
 -- ---- operations of steps
--- Every entry passes that is valid.
-abbrev pub no_test : Test
-no_test = record { avpn = None; andcond = None }
-
 -- What is kept of an operation. No test, since the answer says whether the entry passed. Of an
 -- access what it wants: by which segment, which masks and which entry it was made isn't known
 -- before the processor's lines are run.
@@ -34,21 +28,13 @@ step_op other = other
 abbrev pub unless_worn : Answer → Op → Op
 unless_worn answer op = if is_worn answer then Read else op
 
--- The answer says that the stamp was raised.
-abbrev pub raises_stamp : Answer → Bool
-raises_stamp Entered = true
-raises_stamp Removed = true
-raises_stamp Protected = true
-raises_stamp Was = true
-raises_stamp other = false
-
 -- The state after, where this was the answer. An access that was allowed was on a valid state, and
 -- sets R, and a store C; any other operation made its change if the answer says that the stamp was
 -- raised.
 unfoldable pub next_by : Op → Answer → State → State
 next_by (Access tag base key no_execute want masks) answer s =
     if is_at answer && s.valid then touched_state s want else s
-next_by other answer s = if raises_stamp answer then (reply_of s other).1 else s
+next_by other answer s = if is_change answer then (reply_of s other).1 else s
 
 -- ---- steps
 -- A receipt without its state before.
@@ -84,7 +70,7 @@ ending_states a (x ∷ xs) = ending_states (after_step a x) xs
 -- before tell.
 abbrev pub is_unchanged : Bool → Answer → Bool → Bool → Bool
 is_unchanged store answer r c =
-    if raises_stamp answer
+    if is_change answer
     then false
     else
     if is_at answer

@@ -27,7 +27,7 @@ use vcpu::{key, operation, outcome, outcome_at};
 /// The receipt that the walk of a page gives back, whose operations found these states, one after
 /// the other, on a table of `2^order` bytes. Its receipts take the place of what is in `receipts`.
 /// There is no other such walk.
-pub fn walk_on(
+fn walk_on(
     states: &[EntryState],
     order: u8,
     page: &Page,
@@ -68,7 +68,7 @@ fn is_current(line: &Line, state: &EntryState) -> bool
 
 /// The receipt of an access by a cached line whose entry was in this state. `None` where there is
 /// none.
-pub fn hit_on(state: &EntryState, line: &Line, op: Op) -> Option<Receipt>
+fn hit_on(state: &EntryState, line: &Line, op: Op) -> Option<Receipt>
     ensures some { IfSome result (IsHitBy line.now op state.now) }
     ensures none { IfNone result ((r : Receipt) → IsHitBy line.now op state.now r → ⊥) }
 {

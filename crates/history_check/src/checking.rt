@@ -49,9 +49,9 @@ fn behind_reply<'a>(
         behind
         ((rest : List ℕ) → text.now ≡ reply_text line.now reply.now ++ rest → ⊥)) }
 {
-    let mut told = String::new(alloc);
-    put_reply(&mut told, line, reply)?;
-    Ok(text.strip_prefix(told.as_bytes()))
+    let mut own = String::new(alloc);
+    put_reply(&mut own, line, reply)?;
+    Ok(text.strip_prefix(own.as_bytes()))
 }
 
 /// What stands in the text behind the reply to a quiet line, which the run then has behind it.

@@ -1,7 +1,7 @@
 ghost use Rattle.std.specs.Prelude.{◌≡◌, ◌≤◌, ◌++◌, drop, length, map, List, ℕ, IfOk, IfSome, IfNone};
 ghost use Rattle.std.specs.List.{AllByRecursion};
 ghost use Rattle.trace_reply.specs.Replies.{receipts_in};
-ghost use Rattle.trace_reply.specs.Places.{reply_in};
+ghost use Rattle.trace_reply.specs.Slots.{reply_in};
 ghost use Rattle.reply_text.specs.Text.{reply_text};
 ghost use Rattle.receipt_text.specs.Marks.{IsMark};
 ghost use Rattle.receipt_text.specs.Receipts.{mark_of};
@@ -9,10 +9,10 @@ ghost use Rattle.history_check.specs.Replay.{before_each};
 ghost use Rattle.history_check.specs.LineReply.{FitsText};
 
 use entry_model::{EntryState, Receipt};
-use reply_text::put_place;
+use reply_text::put_slot;
 use std::alloc::AllocError;
 use trace_line::TraceLine;
-use trace_reply::{ReplyEnd, ReplyPlace};
+use trace_reply::{ReplyEnd, ReplySlot};
 
 /// Tells that entry and stamp of a receipt fit into a mark, and does nothing else.
 fn has_mark(receipt: &Receipt)
@@ -31,13 +31,13 @@ fn have_marks(receipts: &[Receipt])
     }
 }
 
-/// The receipts of the reply that has the place.
-pub fn receipts_of(place: &ReplyPlace) -> &[Receipt]
-    ensures { result.now ≡ receipts_in (reply_in place.now) }
+/// The receipts of the reply in the slot.
+pub fn receipts_of(slot: &ReplySlot) -> &[Receipt]
+    ensures { result.now ≡ receipts_in (reply_in slot.now) }
 {
-    match &place.end {
+    match &slot.end {
         ReplyEnd::Hcall(_) | ReplyEnd::Access(_) | ReplyEnd::Device(_) => {
-            place.receipts.as_slice()
+            slot.receipts.as_slice()
         }
         ReplyEnd::Segment(_) | ReplyEnd::MaskSet | ReplyEnd::Dump(_) => &[],
     }
@@ -56,36 +56,36 @@ fn begins_with(given: &[u8], text: &[u8]) -> Option<usize>
     }
 }
 
-/// How many bytes the text of the reply that has the place has, if it has as many receipts as these
+/// How many bytes the text of the reply in the slot has, if it has as many receipts as these
 /// states, and the given text begins with its text. `out` is room to write in.
 pub fn fitting(
     out: &mut String,
     line: &TraceLine,
-    place: &ReplyPlace,
+    slot: &ReplySlot,
     found: &[EntryState],
     given: &[u8],
 ) -> Result<Option<usize>, AllocError>
-    requires { length (receipts_in (reply_in place.now)) ≡ length found.now
-        → before_each (receipts_in (reply_in place.now)) ≡ found.now }
+    requires { length (receipts_in (reply_in slot.now)) ≡ length found.now
+        → before_each (receipts_in (reply_in slot.now)) ≡ found.now }
     ensures some { IfOk
         result
-        (λ o. IfSome o (FitsText line.now found.now given.now (reply_in place.now))) }
+        (λ o. IfSome o (FitsText line.now found.now given.now (reply_in slot.now))) }
     ensures none { IfOk
         result
         (λ o.
         IfNone
         o
         ((rest : List ℕ)
-        → before_each (receipts_in (reply_in place.now)) ≡ found.now
-        → given.now ≡ reply_text line.now (reply_in place.now) ++ rest
+        → before_each (receipts_in (reply_in slot.now)) ≡ found.now
+        → given.now ≡ reply_text line.now (reply_in slot.now) ++ rest
         → ⊥)) }
 {
-    let receipts = receipts_of(place);
+    let receipts = receipts_of(slot);
     if receipts.len() != found.len() {
         return Ok(None);
     }
     have_marks(receipts);
     out.clear();
-    put_place(out, line, place)?;
+    put_slot(out, line, slot)?;
     Ok(begins_with(given, out.as_bytes()))
 }

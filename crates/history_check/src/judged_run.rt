@@ -15,7 +15,7 @@ ghost use Rattle.history_check.specs.JudgedRun.{resize_on};
 ghost use Rattle.history_check.specs.StoreParts.{LeavesStore, FoundOn};
 
 use crate::context::Context;
-use crate::parting::{deal_parts, lines_end};
+use crate::parting::{deal_parts, replies_end};
 use crate::section::section_found;
 use entry_model::HReply;
 use frame_grants::Grants;
@@ -199,7 +199,7 @@ impl JudgedRun {
                 return Ok(None);
             }
         }
-        Ok(Some(lines_end(text, lines.len())))
+        Ok(Some(replies_end(text, lines.len())))
     }
 
     // Finds a section of the store of this number: how many bytes stand first that are the text of

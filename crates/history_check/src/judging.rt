@@ -12,7 +12,7 @@ use crate::processor::{after_line, gone_line_of};
 use entry_model::{EntryState, Line};
 use std::alloc::AllocError;
 use trace_line::TraceLine;
-use trace_reply::ReplyPlace;
+use trace_reply::ReplySlot;
 use vcpu::Cpu;
 
 /// Whether the entry of a cached line that was gone, if there was one, has left the line's stamp in
@@ -47,7 +47,7 @@ pub fn judge_line(
     found: &[EntryState],
     given: &[u8],
     out: &mut String,
-    place: &mut ReplyPlace,
+    slot: &mut ReplySlot,
 ) -> Result<Option<usize>, AllocError>
     requires { is_quiet line.now.act ≡ false }
     ensures { IfOk
@@ -67,16 +67,16 @@ pub fn judge_line(
         processor.new
         (front_of fronts.new opening.now)) }
 {
-    let Some(count) = line_reply(context, processor, line, found, given, out, place)? else {
+    let Some(count) = line_reply(context, processor, line, found, given, out, slot)? else {
         return Ok(None);
     };
-    let gone = gone_line_of(processor, &line.act, place);
+    let gone = gone_line_of(processor, &line.act, slot);
     if !has_left(closing, &gone) {
         return Ok(None);
     }
-    if !keep_fronts(fronts, opening, &gone, receipts_of(place))? {
+    if !keep_fronts(fronts, opening, &gone, receipts_of(slot))? {
         return Ok(None);
     }
-    after_line(processor, &line.act, place);
+    after_line(processor, &line.act, slot);
     Ok(Some(count))
 }

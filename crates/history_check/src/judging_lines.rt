@@ -11,7 +11,7 @@ use crate::judging::judge_line;
 use entry_model::EntryState;
 use std::alloc::{AllocError, Global};
 use trace_line::TraceLine;
-use trace_reply::ReplyPlace;
+use trace_reply::ReplySlot;
 use vcpu::Cpu;
 
 /// How many fronts of all processors may be listed, in 2 MB.
@@ -46,7 +46,7 @@ fn judge_next(
     found: &[EntryState],
     given: &[u8],
     out: &mut String,
-    place: &mut ReplyPlace,
+    slot: &mut ReplySlot,
 ) -> Result<Option<usize>, AllocError>
     requires plain { is_quiet line.now.act ≡ false }
     requires cpu { line.now.cpu < length processors.old.items }
@@ -74,7 +74,7 @@ fn judge_next(
     let processor = &mut processors[cpu];
     let own = &mut fronts[cpu];
     let judged = judge_line(
-        context, opening, closing, processor, own, line, found, given, out, place,
+        context, opening, closing, processor, own, line, found, given, out, slot,
     )?;
     Ok(judged)
 }
@@ -109,7 +109,7 @@ fn judge_each(
     ensures processors { length processors.new.items ≡ length processors.old.items }
 {
     let mut out = String::new(alloc);
-    let mut place = ReplyPlace::new();
+    let mut slot = ReplySlot::new();
     let mut states = found;
     let mut text = given;
     for i in 0..lines.len() {
@@ -120,7 +120,7 @@ fn judge_each(
         }
         let (mine, others) = states.split_at(count);
         let told = judge_next(
-            context, opening, closing, processors, fronts, line, mine, text, &mut out, &mut place,
+            context, opening, closing, processors, fronts, line, mine, text, &mut out, &mut slot,
         )?;
         let Some(bytes) = told else {
             return Ok(None);

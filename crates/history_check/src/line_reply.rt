@@ -8,7 +8,7 @@ ghost use Rattle.hpt_walk.specs.Access.{IsByWay};
 ghost use Rattle.run_model.specs.StoreContexts.{access_of};
 ghost use Rattle.trace_line.specs.Lines.{is_quiet};
 ghost use Rattle.trace_reply.specs.declared.reply.Reply.{Reply};
-ghost use Rattle.trace_reply.specs.Places.{reply_in};
+ghost use Rattle.trace_reply.specs.Slots.{reply_in};
 ghost use Rattle.trace_reply.specs.Replies.{receipts_in};
 ghost use Rattle.history_check.specs.Replay.{before_each};
 ghost use Rattle.history_check.specs.LineReply.{IsAccessOn, IsHitReply, IsReplyTo, IsReplyOn, FitsText, FitsNoReply};
@@ -24,7 +24,7 @@ use run_model::Surroundings;
 use slb_model::{Segment, Slb};
 use std::alloc::AllocError;
 use trace_line::{Act, TraceLine};
-use trace_reply::{ReplyEnd, ReplyPlace};
+use trace_reply::{ReplyEnd, ReplySlot};
 use vcpu::Cpu;
 
 /// Whether an `slbmte` of these words is accepted.
@@ -115,14 +115,14 @@ fn put_hit(
     processor: &Cpu,
     act: &Act,
     found: &[EntryState],
-    place: &mut ReplyPlace,
+    slot: &mut ReplySlot,
 ) -> bool
     ensures yes { result ≡ true
-        → IsReplyOn context.now processor.now act.now found.now (reply_in place.new) }
+        → IsReplyOn context.now processor.now act.now found.now (reply_in slot.new) }
     ensures only { (q : Reply)
         → IsReplyOn context.now processor.now act.now found.now q
         → IsHitReply q
-        → (result ≡ true) × (reply_in place.new ≡ q) }
+        → (result ≡ true) × (reply_in slot.new ≡ q) }
 {
     let Act::Access { want, ea, user } = *act else {
         return false;
@@ -136,11 +136,11 @@ fn put_hit(
         user,
         masks: processor.authority(),
     };
-    let receipts = &mut place.receipts;
+    let receipts = &mut slot.receipts;
     match cached_end(context, processor, &segment, &request, found, receipts) {
         None => false,
         Some(end) => {
-            place.end = ReplyEnd::Access(end);
+            slot.end = ReplyEnd::Access(end);
             true
         }
     }
@@ -153,18 +153,18 @@ fn put_other(
     processor: &Cpu,
     act: &Act,
     found: &[EntryState],
-    place: &mut ReplyPlace,
+    slot: &mut ReplySlot,
 )
     requires { is_quiet act.now ≡ false }
-    ensures reply { IsReplyTo context.now processor.now act.now (reply_in place.new) }
-    ensures before { length (receipts_in (reply_in place.new)) ≡ length found.now
-        → before_each (receipts_in (reply_in place.new)) ≡ found.now }
+    ensures reply { IsReplyTo context.now processor.now act.now (reply_in slot.new) }
+    ensures before { length (receipts_in (reply_in slot.new)) ≡ length found.now
+        → before_each (receipts_in (reply_in slot.new)) ≡ found.now }
     ensures only { (q : Reply)
         → IsReplyOn context.now processor.now act.now found.now q
         → (IsHitReply q → ⊥)
-        → reply_in place.new ≡ q }
+        → reply_in slot.new ≡ q }
 {
-    let receipts = &mut place.receipts;
+    let receipts = &mut slot.receipts;
     let around = Surroundings {
         grants: context.grants,
         window: context.window,
@@ -173,7 +173,7 @@ fn put_other(
         Act::Call { number, args, .. } => {
             let hcall = Hcall::of_number(number);
             let registers = call_on(found, context.order, &around, hcall, &args, receipts);
-            place.end = ReplyEnd::Hcall(registers);
+            slot.end = ReplyEnd::Hcall(registers);
         }
         Act::Access { want, ea, user } => {
             let request = Request {
@@ -183,17 +183,17 @@ fn put_other(
                 masks: processor.authority(),
             };
             let end = uncached_end(context, processor, &request, found, receipts);
-            place.end = ReplyEnd::Access(end);
+            slot.end = ReplyEnd::Access(end);
         }
         Act::Device { write, ioba, .. } => {
             let outcome = device_on(found, context.order, &around, ioba, write, receipts);
-            place.end = ReplyEnd::Device(outcome);
+            slot.end = ReplyEnd::Device(outcome);
         }
-        Act::SlbMte { rb, rs } => place.end = ReplyEnd::Segment(is_accepted(rb, rs)),
-        Act::SlbClear => place.end = ReplyEnd::Segment(true),
-        Act::SetMask { .. } => place.end = ReplyEnd::MaskSet,
+        Act::SlbMte { rb, rs } => slot.end = ReplyEnd::Segment(is_accepted(rb, rs)),
+        Act::SlbClear => slot.end = ReplyEnd::Segment(true),
+        Act::SetMask { .. } => slot.end = ReplyEnd::MaskSet,
         // Not reached: a dump is quiet.
-        Act::Dump => place.end = ReplyEnd::Segment(true),
+        Act::Dump => slot.end = ReplyEnd::Segment(true),
     }
 }
 
@@ -207,7 +207,7 @@ pub fn line_reply(
     found: &[EntryState],
     given: &[u8],
     out: &mut String,
-    place: &mut ReplyPlace,
+    slot: &mut ReplySlot,
 ) -> Result<Option<usize>, AllocError>
     requires { is_quiet line.now.act ≡ false }
     ensures some { IfOk
@@ -216,17 +216,17 @@ pub fn line_reply(
         IfSome
         o
         (λ n.
-        IsReplyTo context.now processor.now line.now.act (reply_in place.new)
-        × FitsText line.now found.now given.now (reply_in place.new) n)) }
+        IsReplyTo context.now processor.now line.now.act (reply_in slot.new)
+        × FitsText line.now found.now given.now (reply_in slot.new) n)) }
     ensures none { IfOk
         result
         (λ o. IfNone o (FitsNoReply context.now processor.now line.now found.now given.now)) }
 {
-    if put_hit(context, processor, &line.act, found, place) {
-        if let Some(count) = fitting(out, line, place, found, given)? {
+    if put_hit(context, processor, &line.act, found, slot) {
+        if let Some(count) = fitting(out, line, slot, found, given)? {
             return Ok(Some(count));
         }
     }
-    put_other(context, processor, &line.act, found, place);
-    fitting(out, line, place, found, given)
+    put_other(context, processor, &line.act, found, slot);
+    fitting(out, line, slot, found, given)
 }

@@ -3,7 +3,6 @@ ghost use Rattle.history_check.specs.Steps as steps_of;
 ghost use Rattle.history_check.specs.PlacedSteps.{is_store_act};
 ghost use Rattle.history_check.specs.MarkSteps as steps_by;
 
-use crate::steps::raises_stamp;
 use entry_model::Answer;
 use receipt_text::Mark;
 use std::alloc::AllocError;
@@ -44,7 +43,7 @@ fn is_store(act: &Act) -> bool
 fn is_unchanged(store: bool, answer: Answer, referenced: bool, changed: bool) -> bool
     ensures { result ≡ steps_of.is_unchanged store answer referenced changed }
 {
-    if raises_stamp(answer) {
+    if answer.is_change() {
         return false;
     }
     if !matches!(answer, Answer::At) {

@@ -4,7 +4,7 @@ ghost use Rattle.run_model.specs.AllStores.{windows_in};
 ghost use Rattle.history_check.specs.declared.parting.Part.{Part as PartOf};
 ghost use Rattle.history_check.specs.PartedText.{first_told, behind_told, behind_lines, AreParts};
 
-use crate::reading::first_line;
+use crate::reading::first_reply;
 use run_model::{WindowEntries, store_of};
 use std::alloc::{AllocError, Global};
 use trace_line::TraceLine;
@@ -20,36 +20,36 @@ pub struct Part {
 
 /// What stands up to the first LF, and with it, and what stands behind. All stands before where
 /// there is no LF.
-fn cut_line(text: &[u8]) -> (&[u8], &[u8])
+fn cut_reply(text: &[u8]) -> (&[u8], &[u8])
     ensures first { result.0.now ≡ first_told text.now }
     ensures behind { result.1.now ≡ behind_told text.now }
 {
-    match first_line(text) {
+    match first_reply(text) {
         None => text.split_at(text.len()),
-        Some((told, _)) => text.split_at(told.len() + 1),
+        Some((own, _)) => text.split_at(own.len() + 1),
     }
 }
 
 /// How many bytes the first lines of a text have, so many of them.
-pub fn lines_end(text: &[u8], count: usize) -> usize
+pub fn replies_end(text: &[u8], count: usize) -> usize
     ensures within { result ≤ length text.now }
     ensures behind { drop result text.now ≡ behind_lines count text.now }
 {
     let mut rest = text;
     for _ in 0..count {
-        let (_, others) = cut_line(rest);
+        let (_, others) = cut_reply(rest);
         rest = others;
     }
     text.len() - rest.len()
 }
 
 /// Puts a line and its text behind those of a part.
-fn put_line(part: &mut Part, line: &TraceLine, told: &[u8]) -> Result<(), AllocError>
+fn put_line(part: &mut Part, line: &TraceLine, own: &[u8]) -> Result<(), AllocError>
     ensures lines { OnOk result (part.new.lines.items ≡ part.old.lines.items ++ line.now ∷ []) }
-    ensures text { OnOk result (part.new.text.items ≡ part.old.text.items ++ told.now) }
+    ensures text { OnOk result (part.new.text.items ≡ part.old.text.items ++ own.now) }
 {
     part.lines.push(*line)?;
-    part.text.extend_from_slice(told)?;
+    part.text.extend_from_slice(own)?;
     Ok(())
 }
 
@@ -87,9 +87,9 @@ pub fn deal_parts(
     let mut parts = empty_parts(alloc, windows.len() + 1)?;
     let mut rest = text;
     for line in lines {
-        let (told, others) = cut_line(rest);
+        let (own, others) = cut_reply(rest);
         let number = store_of(windows, &line.act);
-        put_line(&mut parts[number], line, told)?;
+        put_line(&mut parts[number], line, own)?;
         rest = others;
     }
     Ok(parts)

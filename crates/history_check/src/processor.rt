@@ -4,12 +4,12 @@ ghost use Rattle.entry_model.specs.Replies.{access_reply_with};
 ghost use Rattle.slb_model.specs.Buffer.{segment_of};
 ghost use Rattle.tlb_model.specs.CacheAfter.{gone_line};
 ghost use Rattle.run_model.specs.Processors as processors;
-ghost use Rattle.trace_reply.specs.Places.{reply_in};
+ghost use Rattle.trace_reply.specs.Slots.{reply_in};
 ghost use Rattle.history_check.specs.LineReply.{LineFindsPage};
 
 use entry_model::{AccessEnd, By, Line};
 use trace_line::Act;
-use trace_reply::{ReplyEnd, ReplyPlace};
+use trace_reply::{ReplyEnd, ReplySlot};
 use vcpu::Cpu;
 
 /// The cached line of the page that an access walked.
@@ -27,30 +27,30 @@ fn passed(cpu: &Cpu, ea: u64, end: &AccessEnd) -> Option<Line>
     }
 }
 
-/// The cached line that is gone, if the reply to a line has the place: that of the page that it
+/// The cached line that is gone, if the reply to a line is in the slot: that of the page that it
 /// walked.
-pub fn gone_line_of(cpu: &Cpu, act: &Act, place: &ReplyPlace) -> Option<Line>
-    ensures { result ≡ processors.gone_line_of cpu.now act.now (reply_in place.now) }
+pub fn gone_line_of(cpu: &Cpu, act: &Act, slot: &ReplySlot) -> Option<Line>
+    ensures { result ≡ processors.gone_line_of cpu.now act.now (reply_in slot.now) }
 {
-    match (*act, &place.end) {
+    match (*act, &slot.end) {
         (Act::Access { ea, .. }, ReplyEnd::Access(end)) => passed(cpu, ea, end),
         _ => None,
     }
 }
 
-/// Leaves the processor as it is after one of its lines, whose reply has the place.
-pub fn after_line(cpu: &mut Cpu, act: &Act, place: &ReplyPlace)
-    requires { LineFindsPage cpu.old act.now (reply_in place.now) }
-    ensures { cpu.new ≡ processors.processor_after cpu.old act.now (reply_in place.now) }
+/// Leaves the processor as it is after one of its lines, whose reply is in the slot.
+pub fn after_line(cpu: &mut Cpu, act: &Act, slot: &ReplySlot)
+    requires { LineFindsPage cpu.old act.now (reply_in slot.now) }
+    ensures { cpu.new ≡ processors.processor_after cpu.old act.now (reply_in slot.now) }
 {
-    match (*act, &place.end) {
+    match (*act, &slot.end) {
         (Act::SlbMte { rb, rs }, _) => {
             let _refused = cpu.mte(rb, rs);
         }
         (Act::SlbClear, _) => cpu.clear_slb(),
         (Act::SetMask { name, value }, _) => cpu.masks().set(name, value),
         (Act::Access { ea, .. }, ReplyEnd::Access(end)) => {
-            cpu.after_access(ea, end, place.receipts.as_slice());
+            cpu.after_access(ea, end, slot.receipts.as_slice());
         }
         _ => {}
     }

@@ -24,7 +24,7 @@ pub struct SectionSteps {
 }
 
 /// What stands before the first LF, and what stands behind it.
-pub fn first_line(text: &[u8]) -> Option<(&[u8], &[u8])>
+pub fn first_reply(text: &[u8]) -> Option<(&[u8], &[u8])>
     ensures lacks { IfSome result (λ parts. lacks 10 parts.0.now ≡ true) }
     ensures parts { IfSome result (λ parts. text.now ≡ parts.0.now ++ 10 ∷ parts.1.now) }
     ensures none { IfNone result (lacks 10 text.now ≡ true) }
@@ -74,10 +74,10 @@ pub fn read_section(
     let mut rest = text;
     for (i, line) in lines.iter().enumerate() {
         names_few(context, &line.act);
-        let Some((told, others)) = first_line(rest) else {
+        let Some((own, others)) = first_reply(rest) else {
             return Ok(None);
         };
-        let shown = marks_of(told);
+        let shown = marks_of(own);
         let Some(marks) = &shown else {
             return Ok(None);
         };

@@ -1,22 +1,16 @@
 ghost use Rattle.std.specs.Prelude.{◌≡◌, ◌||◌, true};
-ghost use Rattle.entry_model.specs.Receipt.{is_at};
+ghost use Rattle.entry_model.specs.Receipt.{is_at, is_change};
 ghost use Rattle.entry_model.specs.Reply.{touched_state};
 ghost use Rattle.history_check.specs.Steps as steps_of;
 ghost use Rattle.history_check.specs.PlacedSteps as placed_of;
 
 use authority_mask::Masks;
 use dma_window::entering;
-use entry_model::{Answer, EntryState, Op, Test, reply};
+use entry_model::{Answer, EntryState, NO_TEST, Op, reply};
 use hpte_fields::normal;
 use papr_codes::Hcall;
 use storage_prot::Want;
 use trace_line::Act;
-
-/// Every valid entry passes it.
-const NO_TEST: Test = Test {
-    avpn: None,
-    andcond: None,
-};
 
 /// What is kept of each operation by which this TCE is put: the answer tells whether it emptied the
 /// entry or was to enter the TCE there.
@@ -79,16 +73,6 @@ fn line_op(act: &Act, answer: Answer) -> Op
     act_op(act, answer)
 }
 
-/// Whether the answer says that the stamp was raised.
-pub fn raises_stamp(answer: Answer) -> bool
-    ensures { result ≡ steps_of.raises_stamp answer }
-{
-    matches!(
-        answer,
-        Answer::Entered | Answer::Removed | Answer::Protected | Answer::Was
-    )
-}
-
 /// The state after an access that is allowed on it.
 fn touched(state: &EntryState, want: Want) -> EntryState
     requires { state.now.valid ≡ true }
@@ -114,7 +98,7 @@ fn state_after(op: &Op, answer: Answer, state: &EntryState) -> EntryState
             }
         }
         _ => {
-            if raises_stamp(answer) {
+            if answer.is_change() {
                 reply(state, op).1
             } else {
                 *state
@@ -125,7 +109,7 @@ fn state_after(op: &Op, answer: Answer, state: &EntryState) -> EntryState
 
 /// Whether an operation that was answered so may have changed its entry.
 pub fn may_change(answer: Answer) -> bool
-    ensures { result ≡ (steps_of.raises_stamp answer || is_at answer) }
+    ensures { result ≡ (is_change answer || is_at answer) }
 {
     matches!(
         answer,

@@ -11,7 +11,8 @@ use Rattle.hpt_hash.specs.Entries.{low_hash}
 
 -- ---- complements
 -- The complement of a number under a mask that divides the range of the complement.
-complement_below : (d q k r : ℕ) → r < k → ((q * k + k + d * k) - 1 - (q * k + r)) % k ≡ k - 1 - r
+pub complement_below :
+    (d q k r : ℕ) → r < k → ((q * k + k + d * k) - 1 - (q * k + r)) % k ≡ k - 1 - r
 complement_below d q k r h =
     let e : (q * k + k + d * k) - 1 - (q * k + r) ≡ d * k + (k - 1 - r) = omega arith in
     ap (λ n. n % k) e ∙ mod-mul-add d k (k - 1 - r) (omega arith)

@@ -80,20 +80,20 @@ segment_code-tag p dword0 is range e =
     code_of_tag (segment_code_of p.one_tb) (virtual_address p) dword0 (segment_code-le p.one_tb)
     (virtual_address-lt p is) range (sym (tag_of-parts p is) ∙ e ∙ tag_field-parts dword0)
 
-one_tb-code :
+pub one_tb-code :
     (b : Bool) (dword0 : ℕ) → segment_code_of b ≡ segment_code dword0 → is_one_tb dword0 ≡ b
 one_tb-code false dword0 e = rw (← e) refl
 one_tb-code true dword0 e = rw (← e) refl
 
 -- ---- `page_at` is the page of the entry
-and_then-some :
+pub and_then-some :
     {T U : Type 0} (f : T → Option U) (o : Option T) (y : U)
     → option_and_then f o ≡ Some y
     → (x : T) × (o ≡ Some x) × (f x ≡ Some y)
 and_then-some f None y e = cc
 and_then-some f (Some x) y e = (x, refl, e)
 
-if_some :
+pub if_some :
     {T : Type 0} (b : Bool) (o : Option T) (y : T)
     → (if b then o else None) ≡ Some y
     → (b ≡ true) × (o ≡ Some y)

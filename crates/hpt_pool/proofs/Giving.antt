@@ -85,6 +85,7 @@ not_hidden (suc height) place nodes given here =
           (block_at given (18 + suc height))
           (within height (place + 2 ^ (18 + height)) (right_of (suc height) nodes)) inside)
 
+-- The tree's root is a taken block, and the block that is given back begins where the tree does.
 pub record HasRoot (place given : ℕ) (nodes : List Node) : Type 0 where
   pub taken : root_of nodes ≡ Taken
   pub first : given ≡ place

@@ -4,11 +4,11 @@ use Rattle.std.proofs.lemmas.Bool.{cases_Bool, ne_eqb}
 use Rattle.std.proofs.lemmas.List.Elements.{Contains-append_left, Contains-append_right}
 use Rattle.hpt_pool.specs.Pool.{Block, PoolState, block_at, begins_below, taken_with, taken_without, with_block, without_block}
 
-contains_more : {X : Type 0} (x y : X) (xs : List X) → Contains xs y → Contains (x ∷ xs) y
+pub contains_more : {X : Type 0} (x y : X) (xs : List X) → Contains xs y → Contains (x ∷ xs) y
 contains_more x y xs (k, inside, is) = (suc k, omega arith, is)
 
 -- An element that passes is kept.
-Contains-filter :
+pub Contains-filter :
     {X : Type 0} (p : X → Bool) (xs : List X) (x : X)
     → p x ≡ true
     → Contains xs x

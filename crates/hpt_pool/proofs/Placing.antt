@@ -9,6 +9,7 @@ use Rattle.std.proofs.lemmas.List.Kept.{AllPairs-filter}
 use Rattle.hpt_pool.specs.Pool.{Block, PoolState, block_at, overlap, fits, begins_below, taken_with, taken_without, with_block, without_block, IsPlaced, AreApart, IsSound}
 use Rattle.basics.proofs.Lists.{AllPairs-between, filters_join, list_any-false}
 
+-- A block has at least one byte.
 abbrev pub size_above : (block : Block) → 0 < 2 ^ block.order
 size_above block = pow_pos block.order
 
@@ -17,6 +18,7 @@ pub overlap_turned : (one other : Block) → overlap one other ≡ false → ove
 overlap_turned one other apart = grind (arith, nat_tests, apart)
 
 -- ---- a block that is taken
+-- The block is aligned and lies in the pool, and it overlaps none that is taken.
 pub record FitsIn (pool_state : PoolState) (block : Block) : Type 0 where
   pub placed : IsPlaced pool_state block
   pub apart : All (λ other. overlap block other ≡ false) pool_state.taken

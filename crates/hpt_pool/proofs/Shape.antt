@@ -8,6 +8,7 @@ use Rattle.hpt_pool.specs.declared.tree.Node.{Node}
 use Rattle.hpt_pool.specs.declared.tree.Node.TheVariants.{Taken}
 use Rattle.hpt_pool.specs.Tree.{root_of, left_of, right_of}
 
+-- The tree of this height with these nodes has this root, this left half and this right half.
 pub record HasParts (height : ℕ) (nodes : List Node) (root : Node) (left right : List Node) :
     Type 0 where
   pub root_is : root_of nodes ≡ root

@@ -88,6 +88,8 @@ first_right height place order answer left right small lie met_all first =
           (ap (λ n. is_met right order n) (sym same) ∙ first.lower (k - steps) (omega arith))
 
 -- ---- what a call makes
+-- The answer is the first free block of this order in the tree, and the nodes after are a tree with
+-- that block taken too.
 pub record TakesFirst (height place order : ℕ) (nodes after : List Node) (answer : ℕ) : Type 0 where
   pub first : IsFirstFree (blocks_below height place nodes) height place order answer
   pub taken :

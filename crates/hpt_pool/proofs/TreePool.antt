@@ -50,6 +50,7 @@ none_fits base order wanted nodes here less least = at (cases_lt order wanted) w
       (met (order - 18) base wanted nodes here.tree.truthful less least (omega arith) k
       (omega arith)))
 
+-- The search finds this place, and it is the lowest at which a block of this order fits.
 pub record FindsLowest (pool_state : PoolState) (order place : ℕ) : Type 0 where
   pub found : lowest_place pool_state order ≡ Some place
   pub lowest : IsLowest pool_state order place

@@ -188,6 +188,8 @@ leaf_truthful nodes is = record {
 }
 
 -- ---- the halves of a tree that is no leaf
+-- Both halves say the truth of their blocks, neither leaves more free than its whole, and the root
+-- says what the two leave free together.
 pub record HasHalves (height place : ℕ) (nodes left right : List Node) : Type 0 where
   pub truth_left : IsTruthful height left
   pub truth_right : IsTruthful height right

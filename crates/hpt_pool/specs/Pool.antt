@@ -2,7 +2,7 @@
 -- taking and giving change.
 use Rattle.std.specs.Prelude.{◌≡◌, ◌<◌, ◌≤◌, ℕ, ◌+◌, ◌-◌, ◌*◌, ◌%◌, ◌^◌, ◌==◌, Bool, true, false, not, ◌&&◌, nat_lt, nat_le, List, [], ◌∷◌, ◌++◌, filter, find, map, All, AllPairs, Option, option_map}
 use Rattle.std.specs.List.{list_any, range_with_len}
-use Rattle.pool_range.specs.Ranges.{IsPoolRange, range_refusal}
+use Rattle.pool_range.specs.Ranges.{IsPoolRange, range_refusal, least_pool_order}
 use Rattle.pool_range.specs.declared.range.RangeError.{RangeError}
 use Rattle.pool_range.specs.declared.range.RangeError.TheVariants as range_errors
 use Rattle.hpt_pool.specs.declared.error.PoolError.{PoolError}
@@ -101,7 +101,7 @@ without_block pool_state place = record pool_state { taken = taken_without pool_
 -- ---- what holds of a pool at all times
 -- A block is aligned to its size and lies in the pool.
 pub record IsPlaced (pool_state : PoolState) (block : Block) : Type 0 where
-  pub at_least : 18 ≤ block.order
+  pub at_least : least_pool_order ≤ block.order
   pub aligned : block.place % 2 ^ block.order ≡ 0
   pub from_base : pool_state.base ≤ block.place
   pub to_end : end_of block ≤ pool_state.base + 2 ^ pool_state.order

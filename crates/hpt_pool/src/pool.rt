@@ -1,5 +1,6 @@
 ghost use Rattle.std.specs.Prelude.{◌≡◌, ◌<◌, ◌≤◌, ◌^◌, Contains, MatchOption, IfOk, IfSome, IfNone, IsOkUnless, MatchResult, OnOk, Some, None, Err};
 ghost use Rattle.hpt_pool.specs.Pool.{block_at, no_blocks, pool_error, pool_refusal, lowest_place, FitsNowhere, IsLowest, with_block, without_block, IsSound};
+ghost use Rattle.pool_range.specs.Ranges.{least_pool_order};
 
 use crate::error::PoolError;
 use crate::tree::{LEAF_ORDER, Node, free_nodes, give_back, take_first};
@@ -74,7 +75,7 @@ impl Pool {
 
     /// Takes the lowest block of `2^order` bytes that is free. `None` where there is none.
     pub fn take(&mut self, order: u8) -> Option<u64>
-        requires at_least { 18 ≤ order }
+        requires at_least { least_pool_order ≤ order }
         requires at_most { order ≤ 46 }
         ensures place { result ≡ lowest_place self.old order }
         ensures lowest { MatchOption result (FitsNowhere self.old order) (IsLowest self.old order) }

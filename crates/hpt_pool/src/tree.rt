@@ -3,7 +3,7 @@ ghost use Rattle.hpt_pool.specs.Pool.{block_at, taken_with, taken_without};
 ghost use Rattle.hpt_pool.specs.Tree.{root_of, blocks_below, largest_of, JoinsHalves, IsTree};
 ghost use Rattle.hpt_pool.specs.Way.{node_at, IsWay, AreMended};
 ghost use Rattle.hpt_pool.specs.Free.{IsFirstFree};
-ghost use Rattle.pool_range.specs.Ranges.{address_end};
+ghost use Rattle.pool_range.specs.Ranges.{address_end, least_pool_order};
 
 use crate::spot::Spot;
 use std::alloc::{AllocError, Global};
@@ -63,7 +63,7 @@ pub fn take_first(nodes: &mut [Node], height: u8, place: u64, order: u8) -> u64
     requires tree { IsTree height nodes.old }
     requires most { height ≤ 16 }
     requires top { place + 2 ^ (18 + height) ≤ address_end }
-    requires least { 18 ≤ order }
+    requires least { least_pool_order ≤ order }
     requires some { order ≤ largest_of (root_of nodes.old) }
     ensures first { IsFirstFree (blocks_below height place nodes.old) height place order result }
     ensures taken { blocks_below height place nodes.new
@@ -90,7 +90,7 @@ pub fn give_back(nodes: &mut [Node], height: u8, place: u64, given: u64, order: 
     requires tree { IsTree height nodes.old }
     requires most { height ≤ 16 }
     requires top { place + 2 ^ (18 + height) ≤ address_end }
-    requires least { 18 ≤ order }
+    requires least { least_pool_order ≤ order }
     requires taken { Contains (blocks_below height place nodes.old) (block_at given order) }
     ensures given { blocks_below height place nodes.new
         ≡ taken_without (blocks_below height place nodes.old) given }

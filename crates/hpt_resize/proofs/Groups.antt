@@ -1,30 +1,21 @@
 -- To a table that isn't smaller no two entries go to one index.
-use Rattle.std.proofs.Common.{◌≡◌, ℕ, ◌+◌, ◌-◌, ◌*◌, ◌/◌, ◌%◌, ◌^◌, ◌<◌, ◌≤◌, ◌&&◌, if◌then◌else◌, Bool, true, false, Option, Some, None, List, refl, sym, ap, ◌∙◌, subst, arith}
+use Rattle.std.proofs.Common.{◌≡◌, ℕ, ◌+◌, ◌-◌, ◌*◌, ◌/◌, ◌%◌, ◌^◌, ◌<◌, ◌≤◌, ◌&&◌, Bool, true, false, Option, Some, None, List, refl, sym, ap, ◌∙◌, subst, arith}
 use Rattle.std.specs.Prelude.{option_map}
-use Rattle.std.specs.Option.{option_and_then}
 use Rattle.std.proofs.lemmas.Bool.{and_parts}
 use Rattle.std.proofs.Math.Pow.{mod-mod-pow}
 use Rattle.std.proofs.Math.Nat.{mod-lt, div-lt_iff_lt-mul}
-use Rattle.std.proofs.lemmas.Nat.{pow_pos, pow-add, mod-mul-add, div-add-mod'}
+use Rattle.std.proofs.lemmas.Nat.{pow_pos, pow-add, div-add-mod'}
 use Rattle.power_addr.specs.Pages.{VirtualPage}
 use Rattle.hpte_fields.specs.Fields.{is_bolted, is_secondary}
 use Rattle.hpt_hash.specs.Hash.{hash_of, group_of}
 use Rattle.hpte_fields.specs.TableSize.{group_count, least_order}
 use Rattle.hpt_hash.specs.Entries.{page_at}
-use Rattle.hpt_hash.proofs.GroupBits.{group_of-lt}
-use Rattle.hpt_hash.proofs.PageLemmas.{page_at-moved, page_at-group}
+use Rattle.hpt_hash.proofs.GroupBits.{group_of-lt, complement_below}
+use Rattle.hpt_hash.proofs.PageLemmas.{page_at-moved, page_at-group, if_some}
 use Rattle.entry_model.specs.State.{State}
 use Rattle.entry_model.specs.Run.{state_at}
 use Rattle.hpt_resize.specs.Rehash.{carried_page, target_of, target_at}
 use Rattle.hpte_fields.specs.TableSize.{entry_count}
-
--- ---- what a value that is there says of its parts
-and_then_some :
-    {T U : Type 0} (f : T → Option U) (o : Option T) (y : U)
-    → option_and_then f o ≡ Some y
-    → (x : T) × (o ≡ Some x) × (f x ≡ Some y)
-and_then_some f None y e = cc
-and_then_some f (Some x) y e = (x, refl, e)
 
 map_some :
     {T U : Type 0} (f : T → U) (o : Option T) (y : U)
@@ -33,14 +24,9 @@ map_some :
 map_some f None y e = cc
 map_some f (Some x) y e = (x, refl, cc)
 
-if_some :
-    {T : Type 0} (b : Bool) (o : Option T) (y : T)
-    → (if b then o else None) ≡ Some y
-    → (b ≡ true) × (o ≡ Some y)
-if_some true o y e = (refl, e)
-if_some false o y e = cc
-
 -- ---- an entry that is carried
+-- The entry at this index is carried to the target: it is a valid and bolted one of a page, in the
+-- page's group of the old table, and the target has its slot in the page's group of the new one.
 pub record IsCarried (from to : ℕ) (state : State) (index target : ℕ) : Type 0 where
   pub page : VirtualPage
   pub carried : carried_page from state index ≡ Some page
@@ -122,12 +108,6 @@ target_page from to state index target large large' e =
     let stands : group ≡ target / 8 = omega arith in
     page_at-moved from to index target state.dword0 state.dword1 is.page large large' is.found
     stands
-
--- ---- groups of one page in two tables
-complement_below : (d q k r : ℕ) → r < k → ((q * k + k + d * k) - 1 - (q * k + r)) % k ≡ k - 1 - r
-complement_below d q k r below =
-    let e : (q * k + k + d * k) - 1 - (q * k + r) ≡ d * k + (k - 1 - r) = omega arith in
-    ap (λ n. n % k) e ∙ mod-mul-add d k (k - 1 - r) (omega arith)
 
 three_times : (q d k : ℕ) → (q + 1 + d) * k ≡ q * k + k + d * k
 three_times q d k = grind arith

@@ -9,23 +9,24 @@ use Rattle.std.proofs.lemmas.List.FromFn.{fill_by_all}
 use Rattle.entry_model.specs.State.{State, empty_state}
 use Rattle.entry_model.specs.Run.{state_at}
 use Rattle.hpt_resize.specs.declared.carry.Collision.{Collision}
-use Rattle.hpt_resize.specs.Rehash.{target_at, is_target, first_with, collision_at, collision_of, entry_at, rehashed_states, IsPlacedBelow, at_stamp_0}
+use Rattle.hpt_resize.specs.Rehash.{target_at, first_with, collision_at, collision_of, entry_at, rehashed_states, IsPlacedBelow, at_stamp_0}
 use Rattle.hpte_fields.specs.TableSize.{entry_count, least_order}
 use Rattle.hpt_resize.proofs.Finds.{find_none, find_first, found_is, none_found}
 use Rattle.hpt_resize.proofs.Groups.{carried_is, one_source}
+use Rattle.basics.specs.Words.{is_number}
 
 -- ---- the test of a target
-pub target_true : (target : ℕ) (o : Option ℕ) → is_target target o ≡ true → o ≡ Some target
+pub target_true : (target : ℕ) (o : Option ℕ) → is_number target o ≡ true → o ≡ Some target
 target_true target None e = absurd (cc)
 target_true target (Some other) e = ap Some (eqb-true other target e)
 
-pub target_is : (target : ℕ) (o : Option ℕ) → o ≡ Some target → is_target target o ≡ true
+pub target_is : (target : ℕ) (o : Option ℕ) → o ≡ Some target → is_number target o ≡ true
 target_is target None e = absurd (cc)
 target_is target (Some other) e = eq-eqb other target (cc)
 
-target_not : (target : ℕ) (o : Option ℕ) → o ≢ Some target → is_target target o ≡ false
+target_not : (target : ℕ) (o : Option ℕ) → o ≢ Some target → is_number target o ≡ false
 target_not target o other =
-    false_from_ne_true (is_target target o) (λ e. other (target_true target o e))
+    false_from_ne_true (is_number target o) (λ e. other (target_true target o e))
 
 -- ---- the loop
 pub placed_none :
@@ -189,7 +190,7 @@ pub first_is :
 unfolding first_with
 first_is from to states second target first below lower is =
     let e : 0 + first ≡ first = omega arith in
-    find_first (λ index. is_target target (target_at from to states index)) 0 second first below
+    find_first (λ index. is_number target (target_at from to states index)) 0 second first below
     (λ k before.
     target_not target (target_at from to states (0 + k))
     (let same : 0 + k ≡ k = omega arith in
@@ -203,7 +204,7 @@ pub first_none :
     → first_with from to states second target ≡ None
 unfolding first_with
 first_none from to states second target clear =
-    find_none (λ index. is_target target (target_at from to states index)) 0 second
+    find_none (λ index. is_number target (target_at from to states index)) 0 second
     (λ k below.
     target_not target (target_at from to states (0 + k))
     (let same : 0 + k ≡ k = omega arith in
@@ -305,7 +306,7 @@ all_placed from to states into index placed all =
           → get_or into target (empty_state 0) ≡ entry_at from to states target
       each target None none =
           placed.others target (λ k below goes.
-          let fails = none_found (λ m. is_target target (target_at from to states m)) 0
+          let fails = none_found (λ m. is_number target (target_at from to states m)) 0
           (length states) k none (omega arith) in
           let same : 0 + k ≡ k = omega arith in
           let passes = target_is target (target_at from to states (0 + k))
@@ -317,7 +318,7 @@ all_placed from to states into index placed all =
           option_map_or (λ (m : ℕ). at_stamp_0 (state_at states m)) o (empty_state 0))
           none)
       each target (Some k) found =
-          let is = found_is (λ m. is_target target (target_at from to states m)) 0 (length states) k
+          let is = found_is (λ m. is_number target (target_at from to states m)) 0 (length states) k
           found in
           let below : k < 0 + length states = is.below in
           placed.carried k target (omega arith)
@@ -338,7 +339,7 @@ pub never_collides :
     → ⊥
 unfolding first_with
 never_collides from to states first second target large below goes found =
-    let is = found_is (λ m. is_target target (target_at from to states m)) 0 second first found in
+    let is = found_is (λ m. is_number target (target_at from to states m)) 0 second first found in
     let lower : first < 0 + second = is.below in
     let same : first ≡ second = one_source from to states first second target large below
     (target_true target (target_at from to states first) is.passes) goes in

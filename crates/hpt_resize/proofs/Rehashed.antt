@@ -9,11 +9,12 @@ use Rattle.std.proofs.lemmas.List.{get_or_past}
 use Rattle.std.proofs.lemmas.List.FromFn.{length-map-range_with_len, get_or-map-range_with_len}
 use Rattle.entry_model.specs.State.{State, empty_state}
 use Rattle.entry_model.specs.Run.{state_at}
-use Rattle.hpt_resize.specs.Rehash.{target_at, is_target, first_with, collision_at, collision_of, entry_at, rehashed_states, at_stamp_0, AreApartBelow, IsPlacedBelow}
+use Rattle.hpt_resize.specs.Rehash.{target_at, first_with, collision_at, collision_of, entry_at, rehashed_states, at_stamp_0, AreApartBelow, IsPlacedBelow}
 use Rattle.hpte_fields.specs.TableSize.{entry_count, least_order}
 use Rattle.hpt_resize.proofs.Finds.{found_is, none_found}
 use Rattle.hpt_resize.proofs.Groups.{carried_is, target_in_table}
 use Rattle.hpt_resize.proofs.Placed.{target_is, target_true, first_is, first_none}
+use Rattle.basics.specs.Words.{is_number}
 
 -- ---- no collision
 -- Where the search finds nothing no lower index goes there.
@@ -25,7 +26,7 @@ none_before :
 unfolding first_with
 none_before from to states second target j none below goes =
     let same : 0 + j ≡ j = omega arith in
-    let fails = none_found (λ m. is_target target (target_at from to states m)) 0 second j none
+    let fails = none_found (λ m. is_number target (target_at from to states m)) 0 second j none
     below in
     let passes = target_is target (target_at from to states (0 + j))
     (ap (target_at from to states) same ∙ goes) in
@@ -82,7 +83,7 @@ apart_where_none from to states none j k target low below one two =
         absurd (cc)
 
 -- ---- the whole table
-rehashed_at :
+pub rehashed_at :
     (from to : ℕ) (states : List State) (target : ℕ)
     → target < entry_count to
     → state_at (rehashed_states from to states) target ≡ entry_at from to states target
@@ -178,7 +179,7 @@ source_of from to states new target placed valid =
             index = index;
             goes =
                 target_true target (target_at from to states index)
-                (found_is (λ m. is_target target (target_at from to states m)) 0 (length states)
+                (found_is (λ m. is_number target (target_at from to states m)) 0 (length states)
                 index found).passes;
           }
       at None none =

@@ -1,7 +1,7 @@
 -- What a page table becomes in another size: which entries are carried, where each goes, and where
 -- two would meet.
 use Rattle.hpte_fields.specs.TableSize.{entry_count}
-use Rattle.std.specs.Prelude.{◌≡◌, ◌≢◌, ℕ, ◌+◌, ◌*◌, ◌%◌, ◌<◌, ◌==◌, ◌&&◌, Bool, false, if◌then◌else◌, List, length, map, find, Option, Some, None, option_map, is_some}
+use Rattle.std.specs.Prelude.{◌≡◌, ◌≢◌, ℕ, ◌+◌, ◌*◌, ◌%◌, ◌<◌, ◌&&◌, if◌then◌else◌, List, length, map, find, Option, Some, None, option_map, is_some}
 use Rattle.std.specs.List.{range_with_len}
 use Rattle.std.specs.Option.{option_and_then, option_map_or}
 use Rattle.power_addr.specs.Pages.{VirtualPage}
@@ -11,6 +11,7 @@ use Rattle.hpt_hash.specs.Entries.{page_at}
 use Rattle.entry_model.specs.State.{State, empty_state}
 use Rattle.entry_model.specs.Run.{state_at}
 use Rattle.hpt_resize.specs.declared.carry.Collision.{Collision}
+use Rattle.basics.specs.Words.{is_number}
 
 -- ---- one entry
 -- The page of an entry that is carried: one that is valid and bolted, where it is the entry of a
@@ -38,15 +39,10 @@ at_stamp_0 state = record state { stamp = 0 }
 abbrev pub target_at : ℕ → ℕ → List State → ℕ → Option ℕ
 target_at from to states index = target_of from to (state_at states index) index
 
--- The entry goes to this target.
-abbrev pub is_target : ℕ → Option ℕ → Bool
-is_target target None = false
-is_target target (Some other) = other == target
-
 -- The lowest index below `second` whose entry goes to this target.
 unfoldable pub first_with : ℕ → ℕ → List State → ℕ → ℕ → Option ℕ
 first_with from to states second target =
-    find (λ index. is_target target (target_at from to states index)) (range_with_len 0 second)
+    find (λ index. is_number target (target_at from to states index)) (range_with_len 0 second)
 
 -- The collision of the entry at an index with the lowest one of its target, where there is one
 -- before it.

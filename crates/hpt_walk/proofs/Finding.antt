@@ -21,10 +21,12 @@ use Rattle.entry_model.proofs.OperationLaws.{decided_match}
 use Rattle.hpt_walk.specs.Walk.{access_op, h_bit, walk_calls, walk_entries}
 use Rattle.hpt_walk.specs.Translations.{Translation, translations, translations_from, put_first, page_in, is_paired}
 use Rattle.hpt_walk.specs.Laws.{IsEntryState}
-use Rattle.hpt_walk.proofs.Found.{found-on, found-off, both_calls}
+use Rattle.hpt_walk.proofs.Found.{found-on, found-off}
 use Rattle.hpt_walk.proofs.Decided.{match_of, no_match_or_decided}
 use Rattle.hpt_walk.proofs.Telling.{match_page, page_match, valid_of_page}
 use Rattle.hpte_fields.specs.TableSize.{least_order}
+use Rattle.std.proofs.Math.Bool.{or-false, and-true}
+use Rattle.basics.proofs.Each.{each_append}
 
 -- ---- the list of translations
 -- The page is this one.
@@ -34,14 +36,6 @@ is_this page o = option_map_or (λ (p : VirtualPage). same_page p page) o false
 and_false : (b : Bool) → (b && false) ≡ false
 and_false true = refl
 and_false false = refl
-
-and_true : (b : Bool) → (b && true) ≡ b
-and_true true = refl
-and_true false = refl
-
-or_false : (b : Bool) → (b || false) ≡ b
-or_false true = refl
-or_false false = refl
 
 below-eqb : (m n : ℕ) → m < n → (n == m) ≡ false
 below-eqb m n h = at (cases_Bool (n == m)) where
@@ -71,9 +65,9 @@ head_same :
 head_same page k None rest none = none
 head_same page k (Some p) rest none =
     ap (λ b. (same_page p page && b) || is_paired rest page k) (eq-eqb k k refl)
-    ∙ ap (λ b. b || is_paired rest page k) (and_true (same_page p page))
+    ∙ ap (λ b. b || is_paired rest page k) (and-true (same_page p page))
     ∙ ap (λ b. same_page p page || b) none
-    ∙ or_false (same_page p page)
+    ∙ or-false (same_page p page)
 
 below :
     (order : ℕ) (page : VirtualPage) (k e : ℕ) (ss : List State)
@@ -319,7 +313,7 @@ calls_of_walk :
     → AllByRecursion (IsCallOf order page mode) (walk_calls order page mode)
 unfolding walk_calls
 calls_of_walk order page mode =
-    both_calls (IsCallOf order page mode)
+    each_append (IsCallOf order page mode)
     (map (call (access_op page mode false)) (range_with_len (group_of page order false * 8) 8))
     (map (call (access_op page mode true)) (range_with_len (group_of page order true * 8) 8))
     (calls_of_group order page mode false (group_of page order false * 8) 0 8 (omega arith)

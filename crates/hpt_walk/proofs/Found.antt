@@ -84,6 +84,7 @@ found_joined (r ∷ rs) ss none = at (cases_Bool (is_no_match r.answer)) (found_
   at (inr off) rest = let some : Some r ≡ None = sym (found-off r rs off) ∙ none in cc
 
 -- ---- nothing found
+-- Each receipt says NoMatch.
 abbrev pub EachNoMatch : List Receipt → Type 0
 EachNoMatch rs = AllByRecursion (λ (r : Receipt). IsTrue (is_no_match r.answer)) rs
 
@@ -197,11 +198,3 @@ pub same_ops :
     → AllByRecursion (λ (c : Call). P c.op) (map (call op) es)
 same_ops P op [] p = tt
 same_ops P op (e ∷ es) p = (p, same_ops P op es p)
-
-pub both_calls :
-    (P : Call → Type 0) (cs ds : List Call)
-    → AllByRecursion P cs
-    → AllByRecursion P ds
-    → AllByRecursion P (cs ++ ds)
-both_calls P [] ds p q = q
-both_calls P (c ∷ cs) ds p q = (p.0, both_calls P cs ds p.1 q)

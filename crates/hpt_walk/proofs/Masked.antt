@@ -32,7 +32,8 @@ use Rattle.hpt_walk.specs.declared.request.Request.{Request}
 use Rattle.hpt_walk.specs.Access.{AccessContext, IsAccessReply, IsByWay, hit_calls, mode_for, landing_at, logical_of, refused_by, refusing_mask, outcome_by, outcome_of}
 use Rattle.hpt_walk.specs.Laws.{IsRefusedByMask}
 use Rattle.hpt_walk.specs.Walk.{access_op, group_calls, walk_calls}
-use Rattle.hpt_walk.proofs.Found.{trial_ops, same_ops, both_calls, found-on, found-off}
+use Rattle.hpt_walk.proofs.Found.{trial_ops, same_ops, found-on, found-off}
+use Rattle.basics.proofs.Each.{each_append}
 
 -- ---- operations of this mode
 -- The operation is an access of some page that asks this of protection and of the masks.
@@ -45,7 +46,7 @@ calls_in_mode :
     → AllByRecursion (λ (c : Call). IsInMode mode c.op) (walk_calls order page mode)
 unfolding walk_calls
 calls_in_mode order page mode =
-    both_calls (λ (c : Call). IsInMode mode c.op)
+    each_append (λ (c : Call). IsInMode mode c.op)
     (group_calls (access_op page mode false) (group_of page order false))
     (group_calls (access_op page mode true) (group_of page order true))
     (same_ops (IsInMode mode) (access_op page mode false)

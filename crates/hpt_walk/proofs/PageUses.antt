@@ -20,8 +20,9 @@ use Rattle.hpt_walk.specs.Laws.{WasOfPage, HasFirstWord}
 use Rattle.hpt_walk.specs.Translations.{StandsInItsGroup}
 use Rattle.hpt_walk.specs.Walk.{access_op, group_calls, walk_calls, h_bit}
 use Rattle.hpt_walk.proofs.Decided.{decided_off, match_of}
-use Rattle.hpt_walk.proofs.Found.{trial_calls, both_calls}
+use Rattle.hpt_walk.proofs.Found.{trial_calls}
 use Rattle.hpt_walk.proofs.Telling.{match_page}
+use Rattle.basics.proofs.Each.{each_append}
 
 -- The operation is an access of the page by an entry of its group.
 record AsksGroup (order : ℕ) (page : VirtualPage) (mode : AccessMode) (op : Op) (entry : ℕ) :
@@ -75,7 +76,7 @@ walk_asks :
     (walk_calls order page mode)
 unfolding walk_calls
 walk_asks order page mode =
-    both_calls (λ (c : Call). AsksGroup order page mode c.op c.entry)
+    each_append (λ (c : Call). AsksGroup order page mode c.op c.entry)
     (group_calls (access_op page mode false) (group_of page order false))
     (group_calls (access_op page mode true) (group_of page order true))
     (in_group order page mode false) (in_group order page mode true)

@@ -37,9 +37,6 @@ secondary-clear d e = let masked :
 valid-set : (d : ℕ) → d % 2 ≡ 1 → is_valid d ≡ true
 valid-set d e = let masked : bit_and d 1 ≡ 1 = and_mask d 1 ∙ e in rw masked refl
 
-valid-clear : (d : ℕ) → d % 2 ≡ 0 → is_valid d ≡ false
-valid-clear d e = let masked : bit_and d 1 ≡ 0 = and_mask d 1 ∙ e in rw masked refl
-
 -- ---- a page's tag
 -- It has nothing in its low seven bits.
 tag_of-high :

@@ -19,9 +19,11 @@ use Rattle.entry_model.proofs.OperationLaws.{access_undone}
 use Rattle.hpt_walk.specs.declared.request.Request.{Request}
 use Rattle.hpt_walk.specs.Access.{AccessContext, IsAccessReply, IsByWay, hit_calls, mode_for}
 use Rattle.hpt_walk.specs.Walk.{access_op, group_calls, walk_calls}
-use Rattle.hpt_walk.proofs.Found.{trial_ops, same_ops, both_calls}
+use Rattle.hpt_walk.proofs.Found.{trial_ops, same_ops}
+use Rattle.basics.proofs.Each.{each_append}
 
 -- ---- receipts
+-- Each receipt is of an access.
 abbrev pub AreAccesses : List Receipt → Type 0
 AreAccesses rs = AllByRecursion (λ (r : Receipt). is_access r.op ≡ true) rs
 
@@ -54,7 +56,7 @@ calls_access :
     → AllByRecursion (λ (c : Call). is_access c.op ≡ true) (walk_calls order page mode)
 unfolding walk_calls
 calls_access order page mode =
-    both_calls (λ (c : Call). is_access c.op ≡ true)
+    each_append (λ (c : Call). is_access c.op ≡ true)
     (group_calls (access_op page mode false) (group_of page order false))
     (group_calls (access_op page mode true) (group_of page order true))
     (same_ops (λ op. is_access op ≡ true) (access_op page mode false)

@@ -12,9 +12,10 @@ use Rattle.entry_model.specs.CachedLines.{ShowsLine, line_of}
 use Rattle.entry_model.specs.Trial.{Call, IsTrial}
 use Rattle.hpt_walk.specs.Walk.{access_op, group_calls, walk_calls, AreAllNoMatch}
 use Rattle.hpt_walk.specs.Translations.{TranslatesItsPage}
-use Rattle.hpt_walk.proofs.Found.{trial_ends, trial_joined, each_of_none, none_of_each, trial_whole, found_has, found_shows, trial_ops, same_ops, both_calls}
+use Rattle.hpt_walk.proofs.Found.{trial_ends, trial_joined, each_of_none, none_of_each, trial_whole, found_has, found_shows, trial_ops, same_ops}
 use Rattle.hpt_walk.proofs.Decided.{Decides, IsOfPage, receipt_decides, decided_off}
 use Rattle.entry_model.specs.Reply.{AccessMode}
+use Rattle.basics.proofs.Each.{each_append}
 
 -- The eight entries of a group lie in the table.
 pub group_in_table :
@@ -81,7 +82,7 @@ ops_of_page :
     → AllByRecursion (λ (c : Call). IsOfPage page mode c.op) (walk_calls order page mode)
 unfolding walk_calls
 ops_of_page order page mode =
-    both_calls (λ (c : Call). IsOfPage page mode c.op)
+    each_append (λ (c : Call). IsOfPage page mode c.op)
     (group_calls (access_op page mode false) (group_of page order false))
     (group_calls (access_op page mode true) (group_of page order true))
     (same_ops (IsOfPage page mode) (access_op page mode false)

@@ -1,13 +1,10 @@
 -- Worked values of fronts, which the checker computes.
 use Rattle.std.specs.Prelude.{reverse}
-use Rattle.std.proofs.Common.{◌≡◌, ℕ, List, [], ◌∷◌, true, false, None, refl}
+use Rattle.std.proofs.Common.{◌≡◌, ℕ, List, [], ◌∷◌, true, false, refl}
 use Rattle.entry_model.specs.State.{State, empty_state}
 use Rattle.entry_model.specs.Reply.{has_base}
-use Rattle.entry_model.specs.declared.operation.Op.{Op}
-use Rattle.entry_model.specs.declared.operation.Op.TheVariants.{Remove, Access}
 use Rattle.entry_model.specs.History.{pair_of, state_eq}
 use Rattle.storage_prot.specs.Protection.{permission, rows}
-use Rattle.storage_prot.specs.declared.want.Want.{Want}
 use Rattle.storage_prot.specs.declared.want.Want.TheVariants.{Store}
 use Rattle.lock_core.specs.declared.step.Step.{Step}
 use Rattle.lock_core.specs.declared.step.Step.TheVariants.{Lock, Look, LoadData, Shut, Settle, Mark, Split, Join}
@@ -16,7 +13,8 @@ use Rattle.lock_core.specs.Steps.{refusal, refusals, is_allowed, may_act, names_
 use Rattle.lock_core.specs.Words.{noted_state, next_state, changes, receipt, is_noted, is_still, same_access, is_stored}
 use Rattle.lock_core.specs.Runs.{run}
 use Rattle.lock_core.specs.ActorFronts.{fronts_after_step, run_fronts}
-use Rattle.authority_mask.specs.Authority.{no_masks, row_says, key_rows}
+use Rattle.authority_mask.specs.Authority.{row_says, key_rows}
+use Rattle.lock_core.proofs.Rows.{access, removal}
 
 entry : ℕ → State
 entry stamp =
@@ -28,12 +26,6 @@ entry stamp =
       changed = false;
       stamp = stamp;
     }
-
-access : Want → Op
-access want = Access 0x1001 12 false false want no_masks
-
-removal : Op
-removal = Remove (record { avpn = None; andcond = None })
 
 -- The fronts of three actors on two entries, valid at stamp 1 and empty at stamp 7, after steps in
 -- their order. A pair counts four for a stamp and one for a bit.

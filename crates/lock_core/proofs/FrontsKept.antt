@@ -36,6 +36,7 @@ fronts_set (x ∷ xs) (suc i) zero f = inl refl
 fronts_set (x ∷ xs) (suc i) (suc j) f = fronts_set xs i j f
 
 -- ---- what is kept of fronts
+-- No actor's front of an entry is above the pair of the state that the entry counts with.
 abbrev pub AreLow : Machine → List (List ℕ) → Type 0
 AreLow m fs =
     (j e : ℕ) (x : Entry)
@@ -56,7 +57,7 @@ set_low m fs i f low new j e x at = by (fronts_set fs i j f) where
   by (inr is) = subst (λ g. front_at g e ≤ pair_of x.published) (sym is) (new e x at)
 
 -- A step on an entry doesn't lower its pair.
-pair_rises :
+pub pair_rises :
     (e : ℕ) (p : State) (made : Option Receipt) (q : State)
     → Tells e p made q
     → pair_of p ≤ pair_of q
@@ -207,7 +208,7 @@ copies_of zero j f = inr refl
 copies_of (suc n) zero f = inl refl
 copies_of (suc n) (suc j) f = copies_of n j f
 
-opening_front :
+pub opening_front :
     (states : List State) (e : ℕ) (s : State)
     → slice_get states e ≡ Some s
     → front_at (opening_fronts states) e ≡ pair_of s

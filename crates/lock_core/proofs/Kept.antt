@@ -1,13 +1,12 @@
 -- What every step keeps.
 use Rattle.std.specs.Prelude.{◌≡◌, ℕ, ◌≤◌, ◌<◌, ◌^◌, ◌==◌, length, true, false, List, [], ◌∷◌, ◌++◌, filter, Option, Some, None, slice_get}
 use Rattle.power_addr.specs.Pages.{virtual_page}
-use Rattle.entry_model.specs.State.{State}
+use Rattle.entry_model.specs.State.{State, Follows}
 use Rattle.entry_model.specs.declared.line.Line.{Line}
 use Rattle.entry_model.specs.declared.receipt.Receipt.{Receipt}
 use Rattle.entry_model.specs.Receipt.{is_access}
 use Rattle.entry_model.specs.CachedLines.{Holds}
 use Rattle.entry_model.specs.History.{IsLegal, Regrouped}
-use Rattle.entry_model.proofs.Follows.{Follows}
 use Rattle.lock_core.specs.declared.control.Control.{Control}
 use Rattle.lock_core.specs.declared.doing.Doing.{Doing}
 use Rattle.lock_core.specs.declared.entry.Entry.{Entry}
@@ -15,15 +14,18 @@ use Rattle.lock_core.specs.declared.phase.Phase.{Phase}
 use Rattle.lock_core.specs.declared.phase.Phase.TheVariants.{Idle, Held, HeldShut, Looked}
 use Rattle.lock_core.specs.declared.sighting.Sighting.{Sighting}
 use Rattle.lock_core.specs.Words.{without_bits, state_of, noted_state, changes}
-use Rattle.lock_core.specs.Machine.{Actor, Machine, nobody}
+use Rattle.lock_core.specs.Machine.{Actor, Machine, nobody, HoldsEntry}
 use Rattle.lock_core.specs.Runs.{receipts_of}
 
--- The actor has the lock of the entry.
-abbrev pub HasLock : ℕ → Phase → Type 0
-HasLock e Idle = ⊥
-HasLock e (Held d) = d.entry ≡ e
-HasLock e (HeldShut d) = d.entry ≡ e
-HasLock e (Looked d) = ⊥
+-- ---- phases
+pub held_same : (d d' : Doing) → Held d ≡ Held d' → d ≡ d'
+held_same d d' h = cc
+
+pub shut_same : (d d' : Doing) → HeldShut d ≡ HeldShut d' → d ≡ d'
+shut_same d d' h = cc
+
+pub looked_same : (d d' : Doing) → Looked d ≡ Looked d' → d ≡ d'
+looked_same d d' h = cc
 
 -- The actor is at an operation on the entry.
 abbrev pub IsOn : ℕ → Phase → Type 0
@@ -33,6 +35,8 @@ IsOn e (HeldShut d) = d.entry ≡ e
 IsOn e (Looked d) = d.entry ≡ e
 
 -- ---- entries and the actors that are on them
+-- An entry that isn't shut counts with the state of its words, one that is shut is locked, and the
+-- stamp fits in 32 bits.
 pub record EntryOk (x : Entry) : Type 0 where
   pub free : x.control.shut ≡ false → x.published ≡ state_of x.control x.dword0 x.dword1
   pub shut : x.control.shut ≡ true → x.control.locked ≡ true
@@ -84,6 +88,8 @@ pub record LookedOk (d : Doing) (x : Entry) : Type 0 where
       → (x.dword0 ≡ w.0) × (without_bits x.dword1 ≡ without_bits w.1)
   pub bits : IsFresh d x → HasMoreBits d.noted x.control
 
+-- The entry agrees with what an actor that is on it in this phase noted and knows; an idle one is
+-- on none.
 abbrev pub PhaseOk : Phase → Entry → Type 0
 PhaseOk Idle x = Unit {0}
 PhaseOk (Held d) x = HeldOk d x
@@ -113,6 +119,8 @@ logged log (Some r) = log ++ r ∷ []
 
 -- ---- the whole, by a log of all receipts in the order of their making
 module _ (opening : List State) where
+  -- Each locked entry has a holder and none has two, what actors know of entries is true, and each
+  -- entry's receipts in the log are a legal history from its opening state.
   pub record Kept (m : Machine) (log : List Receipt) : Type 0 where
     pub opens : m.opening ≡ opening
     pub size : length m.entries ≡ length opening
@@ -128,13 +136,13 @@ module _ (opening : List State) where
         (e : ℕ) (x : Entry)
         → slice_get m.entries e ≡ Some x
         → x.control.locked ≡ true
-        → (i : ℕ) × (a : Actor) × (slice_get m.actors i ≡ Some a) × HasLock e a.phase
+        → (i : ℕ) × (a : Actor) × (slice_get m.actors i ≡ Some a) × HoldsEntry e a.phase
     pub one :
         (e i j : ℕ) (a b : Actor)
         → slice_get m.actors i ≡ Some a
         → slice_get m.actors j ≡ Some b
-        → HasLock e a.phase
-        → HasLock e b.phase
+        → HoldsEntry e a.phase
+        → HoldsEntry e b.phase
         → i ≡ j
     pub lines :
         (i k : ℕ) (a : Actor) (l : Sighting) (x : Entry)

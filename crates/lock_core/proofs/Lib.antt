@@ -14,4 +14,4 @@ pub mod Telling
 pub mod Shown
 pub mod StateSteps
 mod FrontRows
-mod Rows
+pub mod Rows

@@ -14,9 +14,9 @@ use Rattle.lock_core.specs.declared.entry.Entry.{Entry}
 use Rattle.lock_core.specs.declared.phase.Phase.TheVariants.{Idle, Looked}
 use Rattle.lock_core.specs.declared.sighting.Sighting.{Sighting}
 use Rattle.lock_core.specs.Words.{without_bits, state_of}
-use Rattle.lock_core.specs.Machine.{Actor, Machine, opening_at, is_at, words_in, words_at, words_seen_in, words_seen}
+use Rattle.lock_core.specs.Machine.{Actor, Machine, opening_at, is_at, words_in, words_at, words_seen_in, words_seen, HoldsEntry}
 use Rattle.lock_core.specs.Steps.{result_without_receipt, new_doing, with_loaded}
-use Rattle.lock_core.proofs.Kept.{HasLock, IsOn, IsFresh, LookedOk, PhaseOk, as_line, Kept}
+use Rattle.lock_core.proofs.Kept.{IsOn, IsFresh, LookedOk, PhaseOk, as_line, Kept}
 use Rattle.lock_core.proofs.Moves.{Change}
 use Rattle.lock_core.proofs.Lists.{some_same, none_some}
 use Rattle.lock_core.proofs.Noted.{cleared_same, state_canonical}
@@ -176,7 +176,7 @@ module _ (opening : List State) (m : Machine) (log : List Receipt) (k : Kept ope
         (if x.control.shut then result_without_receipt x Idle else result_without_receipt x
         (Looked (new_doing e op x.control (words_seen m a e x.control))))
     look_change e x op at idle access =
-        let free : (e' : ℕ) → ¬ HasLock e' a.phase = λ e' h. subst (HasLock e') idle h in
+        let free : (e' : ℕ) → ¬ HoldsEntry e' a.phase = λ e' h. subst (HoldsEntry e') idle h in
         let d : Doing = new_doing e op x.control (words_seen m a e x.control) in
         cond_both x.control.shut (result_without_receipt x Idle)
         (result_without_receipt x (Looked d)) (Change m e i x a)
@@ -201,8 +201,8 @@ module _ (opening : List State) (m : Machine) (log : List Receipt) (k : Kept ope
           subst (λ p. PhaseOk p x) is
           (k.actors i d.entry a x me (subst (IsOn d.entry) (sym is) refl) at)
 
-      pub no_lock : (e' : ℕ) → ¬ HasLock e' a.phase
-      no_lock e' h = subst (HasLock e') is h
+      pub no_lock : (e' : ℕ) → ¬ HoldsEntry e' a.phase
+      no_lock e' h = subst (HoldsEntry e') is h
 
       pub idle_change : Change m d.entry i x a (result_without_receipt x Idle)
       idle_change =

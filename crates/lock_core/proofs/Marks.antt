@@ -1,7 +1,7 @@
 -- How an access is decided: second looks and marks.
 use Rattle.std.specs.Prelude.{slice_get, if◌then◌else◌}
 use Rattle.std.proofs.Common.{◌≡◌, ◌⊎◌, ℕ, ◌&&◌, not, Bool, true, false, List, inl, inr, refl, sym, ap, ◌∙◌, subst, Some, unwrap_or}
-use Rattle.std.proofs.lemmas.Bool.{and_parts, cases_Bool, cond_both, false≢true, eqb-true}
+use Rattle.std.proofs.lemmas.Bool.{and_parts, cases_Bool, cond_both, false≢true, eqb-true, not-true}
 use Rattle.entry_model.specs.State.{State, OnlyRaisesBits}
 use Rattle.entry_model.specs.Receipt.{is_access}
 use Rattle.entry_model.specs.declared.receipt.Receipt.{Receipt}
@@ -13,11 +13,11 @@ use Rattle.lock_core.specs.declared.entry.Entry.{Entry}
 use Rattle.lock_core.specs.declared.phase.Phase.{Phase}
 use Rattle.lock_core.specs.declared.phase.Phase.TheVariants.{Idle, Held, HeldShut, Looked}
 use Rattle.lock_core.specs.Words.{without_bits, state_of, known_words, is_read, noted_state, next_state, changes, receipt, is_noted, is_still}
-use Rattle.lock_core.specs.Machine.{Actor, Machine}
+use Rattle.lock_core.specs.Machine.{Actor, Machine, HoldsEntry}
 use Rattle.lock_core.specs.Steps.{result_without_receipt, result_with_receipt, with_noted, marked_entry, second_look}
-use Rattle.lock_core.proofs.Kept.{HasLock, EntryOk, IsFresh, HasMoreBits, LookedOk, PhaseOk, Kept}
+use Rattle.lock_core.proofs.Kept.{EntryOk, IsFresh, HasMoreBits, LookedOk, PhaseOk, Kept}
 use Rattle.lock_core.proofs.Moves.{Change}
-use Rattle.lock_core.proofs.Noted.{not_is, or_has, cleared_same, same_words, state_is, known_words_of, still_is, still_if, next_canonical, noted_same}
+use Rattle.lock_core.proofs.Noted.{or_has, cleared_same, same_words, state_is, known_words_of, still_is, still_if, next_canonical, noted_same}
 use Rattle.lock_core.proofs.Steps.{looks_on, receipt_entry, receipt_before, receipt_after}
 use Rattle.lock_core.proofs.Looks.{looked_ok, no_lock, idle_change}
 
@@ -137,7 +137,7 @@ module _ (opening : List State) (m : Machine) (log : List Receipt) (k : Kept ope
   ok : LookedOk d x
   ok = looked_ok opening m log k i a me live d x at is
 
-  free : (e' : ℕ) → ¬ HasLock e' a.phase
+  free : (e' : ℕ) → ¬ HoldsEntry e' a.phase
   free = no_lock opening m log k i a me live d x at is
 
   idle : Change m d.entry i x a (result_without_receipt x Idle)
@@ -177,7 +177,7 @@ module _ (opening : List State) (m : Machine) (log : List Receipt) (k : Kept ope
       let same : x.control ≡ d.noted = noted_same x.control d.noted found in
       let published : x.published ≡ noted_state d = published_is d x (k.entries d.entry x at) ok
       (fresh_noted d x ok same) parts.0 ∙ ap noted_state (noting_same d x.control same) in
-      told d refl published (still_is d (not_is (changes d) parts.1))
+      told d refl published (still_is d (not-true (changes d) parts.1))
 
   by_the_stamp :
       (is_read d && not (changes d)) ≡ true
@@ -190,10 +190,11 @@ module _ (opening : List State) (m : Machine) (log : List Receipt) (k : Kept ope
       let rest = and_parts _ _ stamp.0 in
       let level : x.control.stamp ≡ d.noted.stamp = eqb-true x.control.stamp d.noted.stamp stamp.1
       in
-      let fresh : IsFresh d x = record { stamp = sym level; free = not_is x.control.shut rest.1 } in
+      let fresh : IsFresh d x = record { stamp = sym level; free = not-true x.control.shut rest.1 }
+      in
       told (with_noted d x.control) refl
       (published_is d x (k.entries d.entry x at) ok fresh parts.0)
-      (still_with_more d x.control ok.op level (ok.bits fresh) (not_is (changes d) parts.1))
+      (still_with_more d x.control ok.op level (ok.bits fresh) (not-true (changes d) parts.1))
 
   pub second_change :
       (is_read d && not (changes d)) ≡ true → Change m d.entry i x a (second_look x d)

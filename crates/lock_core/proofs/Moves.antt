@@ -2,12 +2,12 @@
 use Rattle.std.specs.Prelude.{slice_get, if◌then◌else◌}
 use Rattle.std.proofs.Common.{◌≡◌, ◌≢◌, ◌⊎◌, ℕ, zero, suc, Bool, true, false, List, [], ◌∷◌, ◌++◌, set, inl, inr, ⊎_elim, refl, sym, ap, ◌∙◌, subst, length-set, Option, Some, None, eq-eqb, ne_eqb, eqb, append-nil, append_assoc}
 use Rattle.std.proofs.lemmas.Bool.{cases_Bool, false≢true}
-use Rattle.entry_model.specs.State.{State}
+use Rattle.entry_model.specs.State.{State, Follows}
 use Rattle.entry_model.specs.declared.receipt.Receipt.{Receipt}
 use Rattle.entry_model.specs.Receipt.{after_of, is_decided}
 use Rattle.entry_model.specs.CachedLines.{Holds}
 use Rattle.entry_model.specs.History.{IsLegal, Regrouped, twice}
-use Rattle.entry_model.proofs.Follows.{Follows, stays, follows_on, reply_follows}
+use Rattle.entry_model.proofs.Follows.{stays, follows_on, reply_follows}
 use Rattle.entry_model.proofs.OperationLaws.{decided_valid}
 use Rattle.entry_model.proofs.LineLaws.{holds_on}
 use Rattle.entry_model.proofs.Regroup.{regrouped_self}
@@ -17,14 +17,14 @@ use Rattle.lock_core.specs.declared.entry.Entry.{Entry}
 use Rattle.lock_core.specs.declared.phase.Phase.{Phase}
 use Rattle.lock_core.specs.declared.phase.Phase.TheVariants.{Idle, Held, HeldShut, Looked}
 use Rattle.lock_core.specs.declared.sighting.Sighting.{Sighting}
-use Rattle.lock_core.specs.Machine.{Actor, Machine, nobody, sighting_of, shown_sightings}
+use Rattle.lock_core.specs.Machine.{Actor, Machine, nobody, sighting_of, shown_sightings, HoldsEntry}
 use Rattle.lock_core.specs.declared.step_result.StepResult.{StepResult}
 use Rattle.lock_core.specs.Steps.{actor_after}
 use Rattle.lock_core.specs.Runs.{receipts_of}
-use Rattle.lock_core.proofs.Kept.{HasLock, IsOn, EntryOk, LookedOk, PhaseOk, as_line, on_entry, logged, Kept}
+use Rattle.lock_core.proofs.Kept.{IsOn, EntryOk, LookedOk, PhaseOk, as_line, on_entry, logged, Kept}
 use Rattle.lock_core.proofs.Lists.{some_same, none_some, at_set, set_found, set_else, same_at, in_append}
 
-pub lock_is_on : (e : ℕ) (p : Phase) → HasLock e p → IsOn e p
+pub lock_is_on : (e : ℕ) (p : Phase) → HoldsEntry e p → IsOn e p
 lock_is_on e Idle h = h
 lock_is_on e (Held d) h = h
 lock_is_on e (HeldShut d) h = h
@@ -35,7 +35,7 @@ pub phase_stays :
     (e : ℕ) (p : Phase) (x y : Entry)
     → IsOn e p
     → PhaseOk p x
-    → ¬ HasLock e p
+    → ¬ HoldsEntry e p
     → ((d : Doing) → d.entry ≡ e → LookedOk d x → LookedOk d y)
     → PhaseOk p y
 phase_stays e Idle x y on ok free looks = tt
@@ -224,15 +224,15 @@ pub record Change (m : Machine) (e i : ℕ) (x : Entry) (a : Actor) (t : StepRes
       → PhaseOk b.phase x
       → PhaseOk b.phase t.entry
   pub sole :
-      HasLock e t.phase
+      HoldsEntry e t.phase
       → (j : ℕ) (b : Actor)
       → j ≢ i
       → slice_get m.actors j ≡ Some b
-      → ¬ HasLock e b.phase
+      → ¬ HoldsEntry e b.phase
   pub locks :
       t.entry.control.locked ≡ true
-      → HasLock e t.phase ⊎ ((x.control.locked ≡ true) × ¬ HasLock e a.phase)
-  pub before : (e' : ℕ) → HasLock e' a.phase → e' ≡ e
+      → HoldsEntry e t.phase ⊎ ((x.control.locked ≡ true) × ¬ HoldsEntry e a.phase)
+  pub before : (e' : ℕ) → HoldsEntry e' a.phase → e' ≡ e
   pub tells : Tells e x.published t.made t.entry.published
 
 -- The machine with an entry and an actor in place of the old ones.
@@ -303,12 +303,13 @@ module _ (opening : List State) (m : Machine) (log : List Receipt) (e i : ℕ) (
       (at_set m.actors i j a' b is)
 
   abbrev IsHeld : ℕ → List Actor → Type 0
-  IsHeld e' actors = (j : ℕ) × (b : Actor) × (slice_get actors j ≡ Some b) × HasLock e' b.phase
+  IsHeld e' actors = (j : ℕ) × (b : Actor) × (slice_get actors j ≡ Some b) × HoldsEntry e' b.phase
 
-  old_holder : (e' : ℕ) → ¬ HasLock e' a.phase → IsHeld e' m.actors → IsHeld e' (set m.actors i a')
+  old_holder :
+      (e' : ℕ) → ¬ HoldsEntry e' a.phase → IsHeld e' m.actors → IsHeld e' (set m.actors i a')
   old_holder e' free h =
       let other : h.0 ≢ i = λ q. free
-      (subst (λ (v : Actor). HasLock e' v.phase)
+      (subst (λ (v : Actor). HoldsEntry e' v.phase)
       (same_at m.actors i h.1 a (subst (λ n. slice_get m.actors n ≡ Some h.1) q h.2) z.me)
       h.3) in
       (h.0, h.1, set_else m.actors i h.0 a' other ∙ h.2, h.3)
@@ -322,9 +323,9 @@ module _ (opening : List State) (m : Machine) (log : List Receipt) (e i : ℕ) (
       ⊎_elim {C = IsHeld e' (set m.actors i a')}
       (λ (p : (e' ≡ e) × (y ≡ w)). subst (λ n. IsHeld n (set m.actors i a')) (sym p.0)
       (⊎_elim {C = IsHeld e (set m.actors i a')}
-      (λ (h : HasLock e t.phase).
-      (i, a', set_found m.actors i a a' z.me, subst (HasLock e) (sym phase_is) h))
-      (λ (h : (x.control.locked ≡ true) × ¬ HasLock e a.phase).
+      (λ (h : HoldsEntry e t.phase).
+      (i, a', set_found m.actors i a a' z.me, subst (HoldsEntry e) (sym phase_is) h))
+      (λ (h : (x.control.locked ≡ true) × ¬ HoldsEntry e a.phase).
       old_holder e h.1 (k.held e x z.here h.0))
       (z.locks (ap (λ (v : Entry). v.control.locked) p.1 ∙ locked))))
       (λ (p : (e' ≢ e) × (slice_get m.entries e' ≡ Some w)).
@@ -333,26 +334,28 @@ module _ (opening : List State) (m : Machine) (log : List Receipt) (e i : ℕ) (
 
   mine_alone :
       (e' j : ℕ) (b : Actor)
-      → HasLock e' a'.phase
+      → HoldsEntry e' a'.phase
       → j ≢ i
       → slice_get m.actors j ≡ Some b
-      → ¬ HasLock e' b.phase
+      → ¬ HoldsEntry e' b.phase
   mine_alone e' j b mine other is theirs =
       let e_is = mine' e' (lock_is_on e' a'.phase mine) in
-      z.sole (subst (HasLock e) phase_is (subst (λ n. HasLock n a'.phase) e_is mine)) j b other is
-      (subst (λ n. HasLock n b.phase) e_is theirs)
+      z.sole (subst (HoldsEntry e) phase_is (subst (λ n. HoldsEntry n a'.phase) e_is mine)) j b
+      other is
+      (subst (λ n. HoldsEntry n b.phase) e_is theirs)
 
   one_kept :
       (e' j l : ℕ) (b d : Actor)
       → slice_get (set m.actors i a') j ≡ Some b
       → slice_get (set m.actors i a') l ≡ Some d
-      → HasLock e' b.phase
-      → HasLock e' d.phase
+      → HoldsEntry e' b.phase
+      → HoldsEntry e' d.phase
       → j ≡ l
   one_kept e' j l b d is is' h h' =
       ⊎_elim {C = j ≡ l}
       (λ (p : (j ≡ i) × (a' ≡ b)).
-      let mine : HasLock e' a'.phase = subst (λ (q : Actor). HasLock e' q.phase) (sym p.1) h in
+      let mine : HoldsEntry e' a'.phase = subst (λ (q : Actor). HoldsEntry e' q.phase) (sym p.1) h
+      in
       ⊎_elim {C = j ≡ l} (λ (q : (l ≡ i) × (a' ≡ d)). p.0 ∙ sym q.0)
       (λ (q : (l ≢ i) × (slice_get m.actors l ≡ Some d)).
       absurd (mine_alone e' l d mine q.0 q.1 h')) (at_set m.actors i l a' d is'))
@@ -360,7 +363,7 @@ module _ (opening : List State) (m : Machine) (log : List Receipt) (e i : ℕ) (
       ⊎_elim {C = j ≡ l}
       (λ (q : (l ≡ i) × (a' ≡ d)).
       absurd
-      (mine_alone e' j b (subst (λ (q : Actor). HasLock e' q.phase) (sym q.1) h') p.0 p.1
+      (mine_alone e' j b (subst (λ (q : Actor). HoldsEntry e' q.phase) (sym q.1) h') p.0 p.1
       h))
       (λ (q : (l ≢ i) × (slice_get m.actors l ≡ Some d)). k.one e' j l b d p.1 q.1 h h')
       (at_set m.actors i l a' d is')) (at_set m.actors i j a' b is)

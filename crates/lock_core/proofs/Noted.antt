@@ -2,7 +2,7 @@
 use Rattle.std.specs.Prelude.{is_some}
 use Rattle.std.proofs.Common.{◌≡◌, ℕ, ◌+◌, ◌||◌, not, Bool, true, false, if◌then◌else◌, Option, Some, None, ◌⊎◌, inl, inr, refl, sym, ap, ◌∙◌, subst, arith, bit_and, bit_xor, unwrap_or}
 use Rattle.std.specs.Int.Bits.{xor_zero_r}
-use Rattle.std.proofs.lemmas.Bool.{and_parts, cases_Bool, false≢true, eqb-true}
+use Rattle.std.proofs.lemmas.Bool.{and_parts, cases_Bool, false≢true, eqb-true, not-false}
 use Rattle.std.proofs.lemmas.Nat.Bits.{same_from_bits, bit_at_and, bit_at_xor}
 use Rattle.entry_model.specs.State.{State, IsCanonicalState}
 use Rattle.entry_model.specs.Reply.{reply_of}
@@ -15,15 +15,6 @@ use Rattle.lock_core.specs.declared.control.Control.{Control}
 use Rattle.lock_core.specs.declared.doing.Doing.{Doing}
 use Rattle.lock_core.specs.Words.{without_bits, state_of, known_words, known_of, noted_state, next_state, changes, is_noted}
 use Rattle.lock_core.specs.Steps.{with_noted}
-
--- ---- tests
-pub not_is : (b : Bool) → not b ≡ true → b ≡ false
-not_is true h = absurd (false≢true h)
-not_is false h = refl
-
-pub is_not : (b : Bool) → not b ≡ false → b ≡ true
-is_not true h = refl
-is_not false h = absurd (false≢true (sym h))
 
 pub not_true : (b : Bool) → ¬ (b ≡ true) → b ≡ false
 not_true true n = absurd (n refl)
@@ -132,7 +123,7 @@ known_words_of (Some n) (Some n') g a b h p q r = (p n refl, ap without_bits (q 
 -- ---- whether the reply changes the entry
 pub still_is : (d : Doing) → changes d ≡ false → next_state d ≡ noted_state d
 unfolding changes
-still_is d h = state_same (next_state d) (noted_state d) (is_not _ h)
+still_is d h = state_same (next_state d) (noted_state d) (not-false _ h)
 
 pub still_if : (d : Doing) → next_state d ≡ noted_state d → changes d ≡ false
 unfolding changes
@@ -150,10 +141,6 @@ next_canonical d = reply_canonical (noted_state d) d.op (noted_canonical d)
 pub noted_stamp : (d : Doing) → (noted_state d).stamp ≡ d.noted.stamp
 unfolding noted_state
 noted_stamp d = refl
-
-pub noted_valid : (d : Doing) → (noted_state d).valid ≡ d.noted.valid
-unfolding noted_state
-noted_valid d = refl
 
 -- An operation other than an access that changes the entry raises the stamp by one.
 pub raised :

@@ -4,11 +4,11 @@ use Rattle.std.proofs.Common.{◌≡◌, ◌⊎◌, ℕ, zero, suc, ◌≢◌, �
 use Rattle.std.proofs.lemmas.List.{length-map}
 use Rattle.std.proofs.lemmas.Bool.{false≢true}
 use Rattle.std.proofs.lemmas.Option.{slice_get-get_or, slice_get_within, get_or_from_slice_get}
-use Rattle.entry_model.specs.State.{State, empty_state}
+use Rattle.entry_model.specs.State.{State, empty_state, Follows}
 use Rattle.entry_model.specs.declared.line.Line.{Line}
 use Rattle.entry_model.specs.CachedLines.{Holds, IsCurrent}
 use Rattle.entry_model.specs.History.{IsLegal, history, Regrouped, nothing}
-use Rattle.entry_model.proofs.Follows.{Follows, stays}
+use Rattle.entry_model.proofs.Follows.{stays}
 use Rattle.entry_model.proofs.LineLaws.{holds_on}
 use Rattle.entry_model.proofs.Logged.{logged_history}
 use Rattle.lock_core.specs.declared.entry.Entry.{Entry}
@@ -16,10 +16,10 @@ use Rattle.lock_core.specs.declared.phase.Phase.TheVariants.{Idle}
 use Rattle.lock_core.specs.declared.sighting.Sighting.{Sighting}
 use Rattle.lock_core.specs.declared.step.Step.{Step}
 use Rattle.lock_core.specs.Words.{state_of, unheld_entry, settled_word}
-use Rattle.lock_core.specs.Machine.{Actor, Machine, nobody, newcomer, opening_machine, actor_at, entry_at, opening_at}
+use Rattle.lock_core.specs.Machine.{Actor, Machine, nobody, newcomer, opening_machine, actor_at, entry_at, opening_at, HoldsEntry}
 use Rattle.lock_core.specs.Runs.{run, receipts_of}
 use Rattle.lock_core.specs.Laws.{IsFair, published_state, sighting_by, HasSeen}
-use Rattle.lock_core.proofs.Kept.{HasLock, IsOn, EntryOk, as_line, Kept}
+use Rattle.lock_core.proofs.Kept.{IsOn, EntryOk, as_line, Kept}
 use Rattle.lock_core.proofs.Lists.{none_some, at_set, same_at, at_copies, at_mapped}
 use Rattle.lock_core.proofs.Noted.{state_is}
 use Rattle.lock_core.proofs.Whole.{Goes, moved_goes}
@@ -104,7 +104,7 @@ module _ (states : List State) (fair : All IsFair states) where
         λ e x h locked.
         (let o = at_mapped unheld_entry states e x h in
         absurd (false≢true (ap (λ (z : Entry). z.control.locked) o.2 ∙ locked)));
-    one = λ e i j a b h h' u v. absurd (subst (HasLock e) (first_idle n i a h).0 u);
+    one = λ e i j a b h h' u v. absurd (subst (HoldsEntry e) (first_idle n i a h).0 u);
     lines =
         λ i k a l x h on at.
         absurd (none_some l (subst (λ z. slice_get z k ≡ Some l) (first_idle n i a h).2 on));

@@ -8,10 +8,10 @@ use Rattle.entry_model.specs.History.{Regrouped, twice}
 use Rattle.entry_model.proofs.Regroup.{regrouped_self, regrouped_back}
 use Rattle.lock_core.specs.declared.phase.Phase.TheVariants.{Idle}
 use Rattle.lock_core.specs.declared.sighting.Sighting.{Sighting}
-use Rattle.lock_core.specs.Machine.{Actor, Machine, nobody, newcomer}
+use Rattle.lock_core.specs.Machine.{Actor, Machine, nobody, newcomer, HoldsEntry}
 use Rattle.lock_core.specs.Steps.{joined_actor}
 use Rattle.lock_core.specs.Runs.{receipts_of}
-use Rattle.lock_core.proofs.Kept.{HasLock, IsOn, PhaseOk, Kept}
+use Rattle.lock_core.proofs.Kept.{IsOn, PhaseOk, Kept}
 use Rattle.lock_core.proofs.Moves.{same_receipts, set_receipts}
 use Rattle.lock_core.proofs.Lists.{at_set, set_else, set_found, set_again, set_twice, set_apart, same_at, none_some, in_append}
 
@@ -35,7 +35,7 @@ module _ (opening : List State) (m : Machine) (log : List Receipt) (k : Kept ope
       →
       ((j e : ℕ) (b : Actor)
       → slice_get m.actors j ≡ Some b
-      → HasLock e b.phase
+      → HoldsEntry e b.phase
       → slice_get actors j ≡ Some b)
       → ((j : ℕ) (b : Actor) → slice_get actors j ≡ Some b → b.live ≡ false → b ≡ nobody)
       →
@@ -58,9 +58,9 @@ module _ (opening : List State) (m : Machine) (log : List Receipt) (k : Kept ope
         λ e x at locked. (let h = k.held e x at locked in (h.0, h.1, olds h.0 e h.1 h.2 h.3, h.3));
     one =
         λ e i j a b is is' h h'.
-        (⊎_elim {C = i ≡ j} (λ (idle : a.phase ≡ Idle). absurd (subst (HasLock e) idle h))
+        (⊎_elim {C = i ≡ j} (λ (idle : a.phase ≡ Idle). absurd (subst (HoldsEntry e) idle h))
         (λ (old : slice_get m.actors i ≡ Some a).
-        ⊎_elim {C = i ≡ j} (λ (idle : b.phase ≡ Idle). absurd (subst (HasLock e) idle h'))
+        ⊎_elim {C = i ≡ j} (λ (idle : b.phase ≡ Idle). absurd (subst (HoldsEntry e) idle h'))
         (λ (old' : slice_get m.actors j ≡ Some b). k.one e i j a b old old' h h')
         (news j b is')) (news i a is));
     lines =
@@ -87,7 +87,7 @@ module _ (opening : List State) (m : Machine) (log : List Receipt) (k : Kept ope
       (λ (p : (j ≢ to) × (slice_get m.actors j ≡ Some d)). inr p.1)
       (at_set m.actors to j child d is)))
       (λ j e d is h.
-      (let other : j ≢ to = λ s. subst (λ (z : Actor). HasLock e z.phase)
+      (let other : j ≢ to = λ s. subst (λ (z : Actor). HoldsEntry e z.phase)
       (same_at m.actors to d nobody (subst (λ n. slice_get m.actors n ≡ Some d) s is) was) h
       in
       set_else m.actors to j child other ∙ is))
@@ -151,12 +151,12 @@ module _ (opening : List State) (m : Machine) (log : List Receipt) (k : Kept ope
       (λ (q : (j ≢ i) × (slice_get m.actors j ≡ Some d)). inr q.1)
       (at_set m.actors i j (joined_actor a b) d p.1)) (at_set mid from j nobody d is)))
       (λ j e d is h. (
-      let off : j ≢ from = λ s. subst (HasLock e) idle'
-      (subst (λ (z : Actor). HasLock e z.phase)
+      let off : j ≢ from = λ s. subst (HoldsEntry e) idle'
+      (subst (λ (z : Actor). HoldsEntry e z.phase)
       (same_at m.actors from d b (subst (λ n. slice_get m.actors n ≡ Some d) s is) at) h)
       in
-      let off' : j ≢ i = λ s. subst (HasLock e) idle
-      (subst (λ (z : Actor). HasLock e z.phase)
+      let off' : j ≢ i = λ s. subst (HoldsEntry e) idle
+      (subst (λ (z : Actor). HoldsEntry e z.phase)
       (same_at m.actors i d a (subst (λ n. slice_get m.actors n ≡ Some d) s is) me) h) in
       set_else mid from j nobody off ∙ set_else m.actors i j (joined_actor a b) off' ∙ is))
       (λ j d is none. (⊎_elim {C = d ≡ nobody} (λ (p : (j ≡ from) × (nobody ≡ d)). sym p.1)

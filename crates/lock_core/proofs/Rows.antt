@@ -34,10 +34,10 @@ entry referenced changed =
       stamp = 1;
     }
 
-access : Want → Op
+unfoldable pub access : Want → Op
 access want = Access 0x1001 12 false false want no_masks
 
-removal : Op
+unfoldable pub removal : Op
 removal = Remove (record { avpn = None; andcond = None })
 
 -- The machine of this entry with two actors, after steps in their order.

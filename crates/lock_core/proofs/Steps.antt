@@ -1,7 +1,7 @@
 -- The steps of a holder: lock, data loads, shut, data stores, settle and release.
 use Rattle.std.specs.Prelude.{slice_get, if◌then◌else◌}
 use Rattle.std.proofs.Common.{◌≡◌, ◌≢◌, ℕ, ◌+◌, ◌<◌, ◌^◌, ◌&&◌, not, Bool, true, false, List, inl, inr, refl, sym, ap, ◌∙◌, subst, arith, Some, None}
-use Rattle.std.proofs.lemmas.Bool.{and_parts, cond_both, false≢true, eqb-true}
+use Rattle.std.proofs.lemmas.Bool.{and_parts, cond_both, false≢true, eqb-true, not-true}
 use Rattle.entry_model.specs.State.{State}
 use Rattle.entry_model.specs.declared.operation.Op.{Op}
 use Rattle.entry_model.specs.declared.receipt.Receipt.{Receipt}
@@ -13,12 +13,12 @@ use Rattle.lock_core.specs.declared.entry.Entry.{Entry}
 use Rattle.lock_core.specs.declared.phase.Phase.{Phase}
 use Rattle.lock_core.specs.declared.phase.Phase.TheVariants.{Idle, Held, HeldShut, Looked}
 use Rattle.lock_core.specs.Words.{without_bits, settled_word, is_read, noted_state, next_state, changes, receipt, is_stored}
-use Rattle.lock_core.specs.Machine.{Actor, Machine}
+use Rattle.lock_core.specs.Machine.{Actor, Machine, HoldsEntry}
 use Rattle.lock_core.specs.Steps.{result_without_receipt, result_with_receipt, new_doing, with_noted, with_loaded, with_stored, locked_entry, shut_entry, settled_entry}
-use Rattle.lock_core.proofs.Kept.{HasLock, IsOn, EntryOk, HeldOk, ShutOk, IsFresh, HasMoreBits, LookedOk, PhaseOk, Kept}
+use Rattle.lock_core.proofs.Kept.{IsOn, EntryOk, HeldOk, ShutOk, IsFresh, HasMoreBits, LookedOk, PhaseOk, Kept}
 use Rattle.lock_core.proofs.Moves.{Change, lock_is_on, phase_stays}
 use Rattle.lock_core.proofs.Lists.{some_same, none_some}
-use Rattle.lock_core.proofs.Noted.{not_is, not_true, or_has, same_words, state_is, known_words_of, still_is, next_canonical, raised, changes_alike}
+use Rattle.lock_core.proofs.Noted.{not_true, or_has, same_words, state_is, known_words_of, still_is, next_canonical, raised, changes_alike}
 
 -- ---- what others have looked at
 -- The entry is shut: nobody reads its words.
@@ -85,7 +85,7 @@ looks_on d x y stamp shut first second more ok =
 
 -- ---- what a holder knows
 holder_locked :
-    (e : ℕ) (p : Phase) (x : Entry) → HasLock e p → PhaseOk p x → x.control.locked ≡ true
+    (e : ℕ) (p : Phase) (x : Entry) → HoldsEntry e p → PhaseOk p x → x.control.locked ≡ true
 holder_locked e Idle x h ok = absurd h
 holder_locked e (Held d) x h ok = ok.locked
 holder_locked e (HeldShut d) x h ok = ok.locked
@@ -137,12 +137,12 @@ held_loaded false x d ok =
       op = ok.op;
     }
 
-stored_control :
+pub stored_control :
     (second : Bool) (s : State) (x : Entry) → (with_stored second s x).control ≡ x.control
 stored_control true s x = refl
 stored_control false s x = refl
 
-stored_published :
+pub stored_published :
     (second : Bool) (s : State) (x : Entry) → (with_stored second s x).published ≡ x.published
 stored_published true s x = refl
 stored_published false s x = refl
@@ -179,20 +179,20 @@ module _ (opening : List State) (m : Machine) (log : List Receipt) (k : Kept ope
   -- Nobody else holds what a holder holds.
   alone :
       (e : ℕ)
-      → HasLock e a.phase
+      → HoldsEntry e a.phase
       → (j : ℕ) (b : Actor)
       → j ≢ i
       → slice_get m.actors j ≡ Some b
-      → ¬ HasLock e b.phase
+      → ¬ HoldsEntry e b.phase
   alone e mine j b other is theirs = other (k.one e j i b a is me theirs mine)
 
   -- The actor goes on, and the entry stays.
   pub only_phase :
       (e : ℕ) (x : Entry) (p : Phase)
       → slice_get m.entries e ≡ Some x
-      → ((e' : ℕ) → ¬ HasLock e' a.phase)
+      → ((e' : ℕ) → ¬ HoldsEntry e' a.phase)
       → ((e' : ℕ) → IsOn e' p → e' ≡ e)
-      → ¬ HasLock e p
+      → ¬ HoldsEntry e p
       → PhaseOk p x
       → Change m e i x a (result_without_receipt x p)
   only_phase e x p at free mine none ok = record {
@@ -209,8 +209,8 @@ module _ (opening : List State) (m : Machine) (log : List Receipt) (k : Kept ope
     tells = refl;
   }
 
-  idle_free : a.phase ≡ Idle → (e' : ℕ) → ¬ HasLock e' a.phase
-  idle_free idle e' h = subst (HasLock e') idle h
+  idle_free : a.phase ≡ Idle → (e' : ℕ) → ¬ HoldsEntry e' a.phase
+  idle_free idle e' h = subst (HoldsEntry e') idle h
 
   lock_free :
       (e : ℕ) (x : Entry) (op : Op)
@@ -225,7 +225,8 @@ module _ (opening : List State) (m : Machine) (log : List Receipt) (k : Kept ope
       let y : Entry = locked_entry x true in
       let unshut : x.control.shut ≡ false = not_true x.control.shut
       (λ h. false≢true (sym unlocked ∙ ok.shut h)) in
-      let nobody' : (j : ℕ) (b : Actor) → slice_get m.actors j ≡ Some b → ¬ HasLock e b.phase = λ j
+      let nobody' :
+      (j : ℕ) (b : Actor) → slice_get m.actors j ≡ Some b → ¬ HoldsEntry e b.phase = λ j
       b is theirs. absurd
       (false≢true
       (sym unlocked
@@ -278,16 +279,16 @@ module _ (opening : List State) (m : Machine) (log : List Receipt) (k : Kept ope
   -- ---- the holder goes on
   module _ (d : Doing) (x : Entry) (at : slice_get m.entries d.entry ≡ Some x)
       (is : a.phase ≡ Held d) where
-    has_lock : HasLock d.entry a.phase
-    has_lock = subst (HasLock d.entry) (sym is) refl
+    has_lock : HoldsEntry d.entry a.phase
+    has_lock = subst (HoldsEntry d.entry) (sym is) refl
 
     held_ok : HeldOk d x
     held_ok =
         subst (λ p. PhaseOk p x) is
         (k.actors i d.entry a x me (lock_is_on d.entry a.phase has_lock) at)
 
-    only_this : (e' : ℕ) → HasLock e' a.phase → e' ≡ d.entry
-    only_this e' h = sym (subst (HasLock e') is h)
+    only_this : (e' : ℕ) → HoldsEntry e' a.phase → e' ≡ d.entry
+    only_this e' h = sym (subst (HoldsEntry e') is h)
 
     pub load_change :
         (second : Bool)
@@ -356,7 +357,7 @@ module _ (opening : List State) (m : Machine) (log : List Receipt) (k : Kept ope
         parts.0 in
         let still : next_state d' ≡ noted_state d' = still_is d'
         (changes_alike d x.control ok.op (sym ok.valid) (sym ok.stamp)
-        ∙ not_is (changes d) parts.1) in
+        ∙ not-true (changes d) parts.1) in
         record {
           here = at;
           me = me;
@@ -388,16 +389,16 @@ module _ (opening : List State) (m : Machine) (log : List Receipt) (k : Kept ope
   -- ---- while the entry is shut
   module _ (d : Doing) (x : Entry) (at : slice_get m.entries d.entry ≡ Some x)
       (is : a.phase ≡ HeldShut d) where
-    has_shut : HasLock d.entry a.phase
-    has_shut = subst (HasLock d.entry) (sym is) refl
+    has_shut : HoldsEntry d.entry a.phase
+    has_shut = subst (HoldsEntry d.entry) (sym is) refl
 
     shut_ok : ShutOk d x
     shut_ok =
         subst (λ p. PhaseOk p x) is
         (k.actors i d.entry a x me (lock_is_on d.entry a.phase has_shut) at)
 
-    only_that : (e' : ℕ) → HasLock e' a.phase → e' ≡ d.entry
-    only_that e' h = sym (subst (HasLock e') is h)
+    only_that : (e' : ℕ) → HoldsEntry e' a.phase → e' ≡ d.entry
+    only_that e' h = sym (subst (HoldsEntry e') is h)
 
     pub store_change :
         (second : Bool)

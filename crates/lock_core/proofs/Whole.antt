@@ -1,7 +1,7 @@
 -- Over every list of steps.
 use Rattle.std.specs.Prelude.{slice_get, slice_index_or, is_none, option_map}
 use Rattle.std.proofs.Common.{◌≡◌, ℕ, zero, suc, ◌≢◌, ◌==◌, not, Bool, true, false, List, [], ◌∷◌, length, refl, sym, ◌∙◌, Some, eq-eqb, find}
-use Rattle.std.proofs.lemmas.Bool.{and_parts, cond_both, false≢true, ltb-true}
+use Rattle.std.proofs.lemmas.Bool.{and_parts, cond_both, false≢true, ltb-true, not-true}
 use Rattle.std.proofs.lemmas.Option.{slice_get-get_or}
 use Rattle.entry_model.specs.State.{State, empty_state}
 use Rattle.entry_model.specs.declared.receipt.Receipt.{Receipt}
@@ -18,14 +18,13 @@ use Rattle.lock_core.specs.Machine.{Actor, Machine, nobody, actor_at, entry_at, 
 use Rattle.lock_core.specs.Steps.{fits_entry, entry_of, fits, step_result, step_result_of, with_result, split_off, join_in, is_idle, may_act, names_entry, fits_phase, refusals, refusal, is_allowed, after_allowed_step, after_step}
 use Rattle.lock_core.proofs.Kept.{logged, Kept}
 use Rattle.lock_core.proofs.Moves.{Change, both_kept}
-use Rattle.lock_core.proofs.Noted.{not_is}
 use Rattle.lock_core.proofs.Steps.{lock_change, load_change, shut_change, store_change, settle_change, release_change}
 use Rattle.lock_core.proofs.Looks.{look_change, looked_load_change}
 use Rattle.lock_core.proofs.Marks.{second_change, mark_change}
 use Rattle.lock_core.proofs.Passing.{split_kept, join_kept}
 
 -- ---- what an allowed step meets
-no_refusal :
+pub no_refusal :
     (a b c : Bool)
     → is_none
     (option_map (λ (row : Bool × CoreError). row.1)
@@ -76,7 +75,7 @@ module _ (opening : List State) (m : Machine) (log : List Receipt) (k : Kept ope
         (step_result (words_seen m a (entry_of p s) x.control) x p s)
     unfolding fits step_result
     result_change Idle (Lock e op) x is at fit =
-        lock_change opening m log k i a me live e x op at is (not_is (is_access op) fit)
+        lock_change opening m log k i a me live e x op at is (not-true (is_access op) fit)
     result_change Idle (Look e op) x is at fit =
         look_change opening m log k i a me live e x op at is fit
     result_change (Held d) (LoadData second) x is at fit =
@@ -128,7 +127,7 @@ module _ (opening : List State) (m : Machine) (log : List Receipt) (k : Kept ope
       (ltb-true to (length m.actors) other.0) in (
         log,
         split_kept opening m log k i to (actor_at m i) (actor_at m to)
-            (live_there m.actors i parts.0) at (not_is (actor_at m to).live other.1),
+            (live_there m.actors i parts.0) at (not-true (actor_at m to).live other.1),
       )
 
   join_goes :
@@ -142,7 +141,7 @@ module _ (opening : List State) (m : Machine) (log : List Receipt) (k : Kept ope
       let other = and_parts _ _ parts.1 in
       let idle = and_parts _ _ fit in
       let apart : from ≢ i =
-      λ e. false≢true (sym (not_is (from == i) other.1) ∙ eq-eqb from i e) in (
+      λ e. false≢true (sym (not-true (from == i) other.1) ∙ eq-eqb from i e) in (
         log,
         join_kept opening m log k i from (actor_at m i) (actor_at m from)
             (live_there m.actors i parts.0) parts.0 (idle_is (actor_at m i).phase idle.0)

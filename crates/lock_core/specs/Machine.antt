@@ -1,5 +1,5 @@
 -- The machine: entries, and actors that take steps on them.
-use Rattle.std.specs.Prelude.{ℕ, ◌==◌, ◌&&◌, Bool, true, false, if◌then◌else◌, nat_lt, List, [], ◌∷◌, map, find, length, replicate, slice_index_or, slice_set, Option, Some, None, option_map}
+use Rattle.std.specs.Prelude.{ℕ, ◌≡◌, ◌==◌, ◌&&◌, Bool, true, false, if◌then◌else◌, nat_lt, List, [], ◌∷◌, map, find, length, replicate, slice_index_or, slice_set, Option, Some, None, option_map}
 use Rattle.std.specs.Option.{option_or}
 use Rattle.entry_model.specs.State.{State, empty_state}
 use Rattle.entry_model.specs.declared.receipt.Receipt.{Receipt}
@@ -7,7 +7,7 @@ use Rattle.entry_model.specs.Receipt.{is_decided}
 use Rattle.lock_core.specs.declared.control.Control.{Control}
 use Rattle.lock_core.specs.declared.entry.Entry.{Entry}
 use Rattle.lock_core.specs.declared.phase.Phase.{Phase}
-use Rattle.lock_core.specs.declared.phase.Phase.TheVariants.{Idle}
+use Rattle.lock_core.specs.declared.phase.Phase.TheVariants.{Idle, Held, HeldShut, Looked}
 use Rattle.lock_core.specs.declared.sighting.Sighting.{Sighting}
 use Rattle.lock_core.specs.Words.{unheld_entry}
 
@@ -26,6 +26,10 @@ pub record Machine : Type 0 where
   pub opening : List State
   pub entries : List Entry
   pub actors : List Actor
+
+-- How many actors there are at most.
+abbrev pub most_actors : ℕ
+most_actors = 64
 
 -- An actor that isn't live.
 abbrev pub nobody : Actor
@@ -55,6 +59,13 @@ entry_at m e = slice_index_or m.entries e (unheld_entry (empty_state 0))
 -- The opening state of an entry.
 abbrev pub opening_at : Machine → ℕ → State
 opening_at m e = slice_index_or m.opening e (empty_state 0)
+
+-- An actor in the phase has the entry's lock.
+abbrev pub HoldsEntry : ℕ → Phase → Type 0
+HoldsEntry e Idle = ⊥
+HoldsEntry e (Held d) = d.entry ≡ e
+HoldsEntry e (HeldShut d) = d.entry ≡ e
+HoldsEntry e (Looked d) = ⊥
 
 -- There is such an entry.
 abbrev pub in_table : Machine → ℕ → Bool

@@ -1,6 +1,6 @@
 ghost use Rattle.std.specs.Prelude.{◌≡◌, ◌≢◌, ◌<◌, ◌==◌, ◌||◌, [], length, map, replicate, slice_set, nat_lt, true, Err, IfOk, OnOk, OnErr, IfNone, IsOk, IsTrue, IsOkUnless, MatchBool, MatchOption};
 ghost use Rattle.lock_core.specs.Words.{unheld_entry as quiet_entry_of};
-ghost use Rattle.lock_core.specs.Machine.{opening_machine, nobody as nobody_of, newcomer as newcomer_of, actor_at, opening_at as opening_of, in_table as is_in_table, words_seen as seen_words_of};
+ghost use Rattle.lock_core.specs.Machine.{most_actors, opening_machine, nobody as nobody_of, newcomer as newcomer_of, actor_at, opening_at as opening_of, in_table as is_in_table, words_seen as seen_words_of};
 ghost use Rattle.lock_core.specs.Steps.{may_act as may_act_of, names_entry as names_entry_of, fits_entry as fits_entry_of, fits_phase as fits_phase_of, is_idle as is_idle_of, refusal as refusal_of, is_allowed, after_allowed_step, after_step, entry_of as entry_by, step_result_of, with_result, split_off, join_in, takes_memory};
 ghost use Rattle.lock_core.specs.Laws.{published_state};
 
@@ -82,7 +82,7 @@ impl Core {
     /// others are not. `Actors` where there are none or more than 64.
     pub fn new(alloc: Global, states: &[EntryState], actors: u32) -> Result<Core, CoreError>
         ensures refused { MatchBool
-            (actors == 0 || nat_lt 64 actors)
+            (actors == 0 || nat_lt most_actors actors)
             (result ≡ Err CoreError.Actors)
             (IsOkUnless result CoreError.Memory) }
         ensures ok { IfOk result (λ core. core ≡ opening_machine states.now actors) }

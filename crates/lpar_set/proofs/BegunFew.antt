@@ -37,10 +37,6 @@ few_below ns below apart =
     (All-from_recursion (λ n. n < 8) ns below found.0 found.1 found.2) in
     subst (λ n. n < 8) (sym (eqb-true q found.1 found.4)) small)
 
--- Eight at most have begun.
-pub begun_few : (r : SetReading) → IsSetReading r → length r.begun ≤ 8
-begun_few r is = few_below r.begun is.begun.below is.begun.apart
-
 -- While one has not, there is a place for it.
 pub begun_place :
     (r : SetReading) (number : ℕ)

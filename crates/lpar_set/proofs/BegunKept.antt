@@ -15,9 +15,10 @@ use Rattle.lpar_set.specs.SetTrace.{turns_of}
 use Rattle.lpar_set.specs.SetGrammar.{SetReading, reading_of}
 use Rattle.lpar_set.specs.SetReadings.{AreBegun, HasBegun, IsSetReading, count_at, order_of, orders_begun}
 use Rattle.lpar_set.proofs.BegunTables.{map_agree, openings_push, room_push}
-use Rattle.lpar_set.proofs.Retold.{IsRetold, retold_is, told, told_at, weaker}
+use Rattle.lpar_set.proofs.Retold.{IsRetold, retold_is, told, told_at}
 use Rattle.lpar_set.proofs.SetPlaces.{same_reading}
 use Rattle.lpar_set.proofs.TurnLines.{no_turns}
+use Rattle.basics.proofs.Each.{each_map}
 
 -- The partition has not begun, and begins with a table of this order and no run line.
 pub record Begins (r : SetReading) (number order : ℕ) (new : Reading) : Type 0 where
@@ -81,7 +82,7 @@ begun_are :
     → AreBegun (with_begun r number order new)
 begun_are r number order new is inside begins =
     let After = HasBegun (with_begun r number order new) in
-    let old = weaker (HasBegun r) After r.begun
+    let old = each_map (HasBegun r) After r.begun
     (λ m begun. begun_there r number order m new inside begins begun) is.begun.running in
     record {
       below =
@@ -124,7 +125,7 @@ begun_orders r number order new is inside begins =
     (same_reading r number new inside) ∙ begins.same in
     let there : map (order_of s) r.begun ≡ orders_begun r = map_agree (order_of s) (order_of r)
     r.begun
-    (weaker (HasBegun r) (λ m. order_of s m ≡ order_of r m) r.begun
+    (each_map (HasBegun r) (λ m. order_of s m ≡ order_of r m) r.begun
     (λ m begun. begun_order r number order m new inside begins begun) is.begun.running) in
     map-append (order_of s) r.begun (number ∷ [])
     ∙ ap (λ (l : List ℕ). l ++ order_of s number ∷ []) there
@@ -217,7 +218,7 @@ begun_keeps r number order new is retold begins there =
           subst (HasRoomFor pool) (sym orders)
           (room_push pool (orders_begun r) order is.room place);
       turns =
-          weaker (λ (t : Turn). t.partition < length r.begun)
+          each_map (λ (t : Turn). t.partition < length r.begun)
           (λ (t : Turn). t.partition < length (r.begun ++ number ∷ [])) r.turns
           (λ t below. omega (arith, below, size)) is.turns;
       lines = λ k within. begun_lines r number order k new is retold.inside begins within;

@@ -14,8 +14,8 @@ use Rattle.lpar_set.specs.SetReadings.{order_of, orders_begun, reading_at}
 use Rattle.lpar_set.proofs.BegunTables.{map_agree}
 use Rattle.lpar_set.proofs.Followed.{IsFollowed}
 use Rattle.lpar_set.proofs.Partitions.{pool_is, start_is}
-use Rattle.lpar_set.proofs.Retold.{weaker}
 use Rattle.lpar_set.proofs.SetPlaces.{grants_there}
+use Rattle.basics.proofs.Each.{each_map}
 
 -- ---- configurations
 pub config_is :
@@ -35,7 +35,7 @@ tables_are :
 tables_are before r is =
     let orders : map (λ number. (own_config before number).order) r.begun ≡ orders_begun r =
     map_agree (λ number. (own_config before number).order) (order_of r) r.begun
-    (weaker (λ number. number < 8)
+    (each_map (λ number. number < 8)
     (λ number. (own_config before number).order ≡ order_of r number) r.begun
     (λ number below.
     ap (λ (c : Configuration). c.order) (config_is before r number is below))

@@ -18,7 +18,7 @@ use Rattle.trace_read.specs.Grammar.{Reading}
 use Rattle.trace_read.specs.Settings.{grant_named, pool_named}
 use Rattle.trace_read.specs.TextLines.{is_remark}
 use Rattle.lpar_set.specs.PartitionLaws.{IsAgainstSet, past, unprintable, whole, unnamed, late, poolless, early, strange, full}
-use Rattle.lpar_set.specs.PartitionLines.{words_in, is_begin, is_number, is_shared, first_number, own_form, own_words}
+use Rattle.lpar_set.specs.PartitionLines.{words_in, is_begin, is_shared, first_number, own_form, own_words}
 use Rattle.lpar_set.specs.SetGrammar.{SetReading, after_set_line, below_8, is_of_the_whole, meets_stranger, reading_of, with_given}
 use Rattle.lpar_set.proofs.Followed.{IsFollowed}
 use Rattle.lpar_set.proofs.LinesBefore.{place_is, stranger_met}
@@ -29,6 +29,7 @@ use Rattle.lpar_set.proofs.PlainLines.{remark_numberless, shared_numberless}
 use Rattle.lpar_set.proofs.SetReadingsKept.{retaken}
 use Rattle.lpar_set.proofs.TakenSteps.{behind_guard}
 use Rattle.trace_line.specs.Lines.{most_lines}
+use Rattle.basics.specs.Words.{is_number}
 
 -- ---- which words are accepted
 shared_words : (ws : List (List ℕ)) → is_shared ws ≡ true → is_remark ws ≡ false

@@ -24,12 +24,13 @@ use Rattle.lpar_set.specs.declared.turn.Turn.{Turn}
 use Rattle.lpar_set.specs.PartitionLines.{words_in, is_shared, first_number, own_words, is_begin, is_run}
 use Rattle.lpar_set.specs.SetGrammar.{SetReading, after_allowed, after_member, after_numbered_words, after_own, after_set_line, after_set_words, below_8, is_of_the_whole, meets_stranger, partition_named, reading_of, set_beside, with_given, with_shared}
 use Rattle.lpar_set.proofs.LineMoves.{HasMoved}
-use Rattle.lpar_set.proofs.OwnLines.{is_run as gives_run}
+use Rattle.lpar_set.proofs.OwnLines.{is_run as gives_run, granted_no_run}
 use Rattle.lpar_set.proofs.RunsKept.{next_turn}
 use Rattle.lpar_set.proofs.SetLinesKept.{named_below}
 use Rattle.lpar_set.proofs.SetReadingsKept.{retaken}
 use Rattle.lpar_set.proofs.TakenSteps.{behind_guard, never_ok, required_taken, same_ok, steps_taken}
 use Rattle.trace_line.specs.Lines.{most_lines}
+use Rattle.std.proofs.Math.Bool.{or-true}
 
 -- The set once a line is counted.
 abbrev pub counted : SetReading → SetReading
@@ -221,10 +222,6 @@ or_no : (b : Bool) → b ≡ (b || false)
 or_no true = refl
 or_no false = refl
 
-or_yes : (b : Bool) → (b || true) ≡ true
-or_yes true = refl
-or_yes false = refl
-
 added :
     (r s : SetReading) (number : ℕ) (new : Reading) (given : Given)
     → with_given r number (reading_of r number) new given ≡ Ok s
@@ -293,17 +290,13 @@ added r s number new givens.Run e =
       readings = refl;
       begun = append_none r.begun;
       turns = refl;
-      turned = more ∙ sym (or_yes _);
+      turned = more ∙ sym (or-true _);
     })
 
 -- ---- what forms give
 granted_begins : (said : Result Grant Why) → gives_begin (given_grant said) ≡ false
 granted_begins (Ok grant) = refl
 granted_begins (Err why) = refl
-
-granted_runs : (said : Result Grant Why) → gives_run (given_grant said) ≡ false
-granted_runs (Ok grant) = refl
-granted_runs (Err why) = refl
 
 form_begins :
     (form : Form) (c : Configuration) (ws : List (List ℕ))
@@ -326,7 +319,7 @@ form_runs forms.Order c ws = refl
 form_runs forms.Limit c ws = refl
 form_runs forms.Cpus c ws = refl
 form_runs forms.Pool c ws = refl
-form_runs (forms.Grant kind) c ws = granted_runs (grant_named kind ws)
+form_runs (forms.Grant kind) c ws = granted_no_run (grant_named kind ws)
 form_runs forms.Entry c ws = refl
 form_runs forms.Window c ws = refl
 form_runs forms.Begin c ws = refl

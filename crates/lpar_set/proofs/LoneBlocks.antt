@@ -25,10 +25,7 @@ use Rattle.lpar_set.proofs.BlocksApart.{AreHeld}
 use Rattle.lpar_set.proofs.CallBlocks.{memory_blocks}
 use Rattle.lpar_set.proofs.RoomAlone.{AllAre}
 use Rattle.lpar_set.proofs.RunKept.{line_keeps_run}
-
--- The block of a table.
-abbrev pub block_of : Table → Block
-block_of table = block_at table.place table.order
+use Rattle.partition.specs.PartitionState.{block_of}
 
 -- The block is that of the table that is being prepared.
 abbrev pub IsPendingBlock : Option PendingTable → Block → Type 0

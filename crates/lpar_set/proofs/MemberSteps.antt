@@ -20,6 +20,7 @@ use Rattle.run_model.specs.HeldLines.{AllHold}
 use Rattle.run_model.proofs.Commits.{Moves, commit_moves, cleared, moved_hold}
 use Rattle.lpar_set.specs.BetweenLines.{IsBetweenLines}
 
+-- A line's reply, and the store that the line leaves.
 abbrev pub replied : Reply → Store → Reply × Store
 replied reply w = (reply, w)
 

@@ -22,7 +22,7 @@ use Rattle.trace_read.specs.Acts.{read_act, dump_act}
 use Rattle.trace_read.specs.Configuration.{Configuration, greatest_trace_order, most_processors}
 use Rattle.trace_read.specs.Counts.{may_add}
 use Rattle.trace_read.specs.Forms.{form_named, form_of, run_form, begins_with_digit, verb_of}
-use Rattle.trace_read.specs.Givens.{is_setting, is_setting_form, is_setting_if, given_by, given_if, given_of, given_grant}
+use Rattle.trace_read.specs.Givens.{is_setting_form, given_by, given_if, given_of, given_grant}
 use Rattle.trace_read.specs.Grammar.{Reading, set_to, after_act, after_form, after_words, after_text}
 use Rattle.trace_read.specs.Places.{is_running, comes_at}
 use Rattle.trace_read.specs.Settings.{number_within, with_order, with_limit, with_cpus, grant_named, with_granted, with_checked_grant, with_begin}
@@ -386,75 +386,15 @@ unfolding after_text
 own_moves old new ws own e = text_by (is_remark ws) old new ws own e
 
 -- ---- run lines among them
-run_given :
-    (form : Form) (c : Configuration) (ws : List (List ℕ))
-    → is_setting_form form ≡ false
-    → given_by form c ws ≡ givens.Run
-run_given forms.Order c ws run = absurd (false≢true (sym run))
-run_given forms.Limit c ws run = absurd (false≢true (sym run))
-run_given forms.Cpus c ws run = absurd (false≢true (sym run))
-run_given forms.Pool c ws run = absurd (false≢true (sym run))
-run_given (forms.Grant kind) c ws run = absurd (false≢true (sym run))
-run_given forms.Entry c ws run = absurd (false≢true (sym run))
-run_given forms.Window c ws run = absurd (false≢true (sym run))
-run_given forms.Begin c ws run = absurd (false≢true (sym run))
-run_given (forms.Run verb) c ws run = refl
-run_given forms.Dump c ws run = refl
-
--- An accepted line that is neither a remark nor of the configuration is a run line.
-pub given_run :
-    (old new : Reading) (ws : List (List ℕ))
-    → is_remark ws ≡ false
-    → is_setting ws ≡ false
-    → after_text old ws ≡ Ok new
-    → given_of old.config ws ≡ givens.Run
-unfolding after_text
-given_run old new ws plain run e =
-    let formed = words_formed old new ws (rw plain at e) in
-    rw (plain, formed.is) (run_given formed.form old.config ws (rw formed.is at run))
 
 -- What is given is a run line.
 abbrev pub is_run : Given → Bool
 is_run givens.Run = true
 is_run other = false
 
-granted_no_run : (said : Result Grant Why) → is_run (given_grant said) ≡ false
+pub granted_no_run : (said : Result Grant Why) → is_run (given_grant said) ≡ false
 granted_no_run (Ok grant) = refl
 granted_no_run (Err why) = refl
-
-setting_given :
-    (form : Form) (c : Configuration) (ws : List (List ℕ))
-    → is_setting_form form ≡ true
-    → is_run (given_by form c ws) ≡ false
-setting_given forms.Order c ws is = refl
-setting_given forms.Limit c ws is = refl
-setting_given forms.Cpus c ws is = refl
-setting_given forms.Pool c ws is = refl
-setting_given (forms.Grant kind) c ws is = granted_no_run (grant_named kind ws)
-setting_given forms.Entry c ws is = refl
-setting_given forms.Window c ws is = refl
-setting_given forms.Begin c ws is = refl
-setting_given (forms.Run verb) c ws is = absurd (false≢true is)
-setting_given forms.Dump c ws is = absurd (false≢true is)
-
-formed_given :
-    (said : Result Form Why) (c : Configuration) (ws : List (List ℕ))
-    → is_setting_if said ≡ true
-    → is_run (given_if said c ws) ≡ false
-formed_given (Ok form) c ws is = setting_given form c ws is
-formed_given (Err why) c ws is = absurd (false≢true is)
-
-given_by_remark :
-    (remark : Bool) (c : Configuration) (ws : List (List ℕ))
-    → is_setting ws ≡ true
-    → is_run (if remark then givens.Remark else given_if (form_of ws) c ws) ≡ false
-given_by_remark true c ws is = refl
-given_by_remark false c ws is = formed_given (form_of ws) c ws is
-
--- A configuration line is none.
-pub given_no_run :
-    (c : Configuration) (ws : List (List ℕ)) → is_setting ws ≡ true → is_run (given_of c ws) ≡ false
-given_no_run c ws is = given_by_remark (is_remark ws) c ws is
 
 -- A run line is one more.
 pub run_counts : (old new : Reading) → HasRun old new → length new.lines ≡ length old.lines + 1

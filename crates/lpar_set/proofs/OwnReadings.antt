@@ -39,14 +39,6 @@ lines_on (x ∷ xs) ys q r e =
     ap (λ said. go_on (q.taken + 1) said (λ t. after_lines t (xs ++ ys))) first.first
     ∙ lines_on xs ys first.value r first.rest
 
--- The next line is refused.
-pub next_refused :
-    (r : Reading) (line : List ℕ) (rest : List (List ℕ)) (why : Why)
-    → after_line r line ≡ Err why
-    → after_lines r (line ∷ rest) ≡ Err (r.taken + 1, why)
-unfolding after_lines
-next_refused r line rest why e = ap (λ said. go_on (r.taken + 1) said (λ t. after_lines t rest)) e
-
 -- The end of the lines.
 pub lines_end : (r : Reading) → after_lines r [] ≡ trace_at_end r
 unfolding after_lines

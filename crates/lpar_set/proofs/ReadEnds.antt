@@ -4,15 +4,13 @@ use Rattle.std.specs.List.{AllByRecursion, AllPairs, list_all, list_any}
 use Rattle.std.proofs.Common.{◌≡◌, ◌≢◌, ◌∙◌, ℕ, ◌+◌, ◌<◌, ◌≤◌, true, List, [], ◌∷◌, ◌++◌, length, map, take, get_or, slice_set, Option, None, Ok, refl, sym, ap, subst, ◌&&◌, inl, inr, ◌⊎◌, arith}
 use Rattle.std.proofs.lemmas.Bool.{false≢true, cases_lt}
 use Rattle.std.proofs.lemmas.List.{get_or_default, get_or_past, get_or-set_other, length-set, map-append, take_more}
-use Rattle.std.proofs.lemmas.List.Elements.{All-from_recursion, recursion_from_All, All-get_or, All-push, All-from_get_or}
+use Rattle.std.proofs.lemmas.List.Elements.{All-from_recursion, recursion_from_All, All-get_or, All-push}
 use Rattle.trace_read.specs.Grammar.{Reading, opening_reading, reading_beside}
 use Rattle.trace_read.specs.Places.{is_running}
 use Rattle.trace_read.specs.Trace.{IsAccepted}
 use Rattle.lpar_set.specs.SetTrace.{NumberedTrace}
 use Rattle.lpar_set.specs.SetGrammar.{SetReading, has_begun, partition_read, set_at_end, trace_read_so}
-use Rattle.lpar_set.specs.SetReadings.{HasBegun}
 use Rattle.lpar_set.specs.SetRead.{IsRunningAt, partition_or}
-use Rattle.lpar_set.proofs.SetPlaces.{begun_there}
 
 -- ---- one partition
 running_inside :
@@ -142,18 +140,6 @@ more_accepted ps qs p more all one =
     (All-push Accepted ps p (All-from_recursion Accepted ps all) one))
 
 -- ---- all of a set
--- Whatever stands where there is none.
-pub running_or :
-    (r : SetReading) (other : Reading)
-    → AllByRecursion (HasBegun r) r.begun
-    → AllByRecursion (IsRunningAt r.readings other) r.begun
-running_or r other running =
-    recursion_from_All (IsRunningAt r.readings other) r.begun
-    (All-from_get_or (IsRunningAt r.readings other) r.begun 8 (λ k inside.
-    (let begun : HasBegun r (get_or r.begun k 8) = All-get_or (HasBegun r) r.begun k 8 inside
-    (All-from_recursion (HasBegun r) r.begun running) in
-    subst (λ (o : Option Reading). is_running (unwrap_or o other).stage ≡ true)
-    (sym (begun_there r (get_or r.begun k 8) begun)) begun)))
 
 -- The end of the lines gives the set with these partitions.
 pub set_ended :

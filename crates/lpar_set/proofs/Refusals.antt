@@ -19,11 +19,12 @@ use Rattle.lpar_set.specs.SetReadings.{reading_at}
 use Rattle.lpar_set.specs.SetTrace.{AcceptedSet}
 use Rattle.lpar_set.proofs.Followed.{IsFollowed, member_pool, number_here}
 use Rattle.lpar_set.proofs.LinesRefused.{IsFaulty, of_set, of_own, line_faulty}
-use Rattle.lpar_set.proofs.OwnReadings.{lines_on, next_refused}
+use Rattle.lpar_set.proofs.OwnReadings.{lines_on}
 use Rattle.lpar_set.proofs.Partitions.{own_ends}
 use Rattle.lpar_set.proofs.SetEnds.{set_read}
 use Rattle.lpar_set.proofs.SetReadingsKept.{retaken}
 use Rattle.lpar_set.proofs.Walked.{Reads, too_long, by_lines, Walk, walked, stopped, reads, walk_lines}
+use Rattle.trace_read.proofs.NextLine.{refused_next}
 
 -- ---- the line that is refused
 -- The shared pool of lines among which one names a partition, and those before it were followed.
@@ -53,7 +54,7 @@ own_at before rest r line number why is below words plain refused =
     (map-append (own_line number) before (line ∷ rest))
     ∙ lines_on (own_lines number before) (own_lines number (line ∷ rest))
     (reading_beside r.pool_base r.pool_order) (retaken r number) (is.own number below)
-    ∙ next_refused (retaken r number) (own_line number line) (own_lines number rest) why refused
+    ∙ refused_next (retaken r number) (own_line number line) (own_lines number rest) why refused
 
 or_here : (a b c : Bool) → b ≡ true → (a || (b || c)) ≡ true
 or_here true b c e = refl

@@ -1,6 +1,6 @@
 -- A set's reading, where one partition's is told anew: what holds of the whole, by its parts.
 use Rattle.std.specs.List.{AllByRecursion, AllPairs, range_with_len}
-use Rattle.std.proofs.Common.{◌≡◌, ◌≢◌, ℕ, ◌<◌, ◌≤◌, true, List, [], ◌∷◌, length, map, get_or, Option, Some, None, refl, sym, ap, ◌∙◌, subst, inl, inr, ◌⊎◌}
+use Rattle.std.proofs.Common.{◌≡◌, ◌≢◌, ℕ, ◌<◌, ◌≤◌, true, List, length, map, get_or, Option, Some, None, refl, sym, ap, ◌∙◌, subst, inl, inr, ◌⊎◌}
 use Rattle.std.proofs.lemmas.Bool.{cases_eq, false≢true}
 use Rattle.std.proofs.lemmas.List.{length-set, get_or_default}
 use Rattle.hpt_pool.specs.Pool.{PoolState, no_blocks}
@@ -14,6 +14,7 @@ use Rattle.lpar_set.specs.SetReadings.{AreBegun, HasBegun, IsBeside, IsSetReadin
 use Rattle.lpar_set.proofs.BegunTables.{map_agree}
 use Rattle.lpar_set.proofs.GrantsApart.{pairs_set, strangers_back}
 use Rattle.lpar_set.proofs.SetPlaces.{beside_set, same_reading, other_reading}
+use Rattle.basics.proofs.Each.{each_map}
 
 -- The set with a partition's reading told anew, and with these partitions begun, these tables and
 -- these turns.
@@ -105,15 +106,6 @@ pub record IsSteady (r : SetReading) (number : ℕ) (new : Reading) : Type 0 whe
   pub running : is_running new.stage ≡ is_running (reading_of r number).stage
   pub order : HasBegun r number → new.config.order ≡ order_of r number
 
--- What holds of each element, if another thing does.
-pub weaker :
-    {A : Type 0} (P Q : A → Type 0) (xs : List A)
-    → ((x : A) → P x → Q x)
-    → AllByRecursion P xs
-    → AllByRecursion Q xs
-weaker P Q [] each all = tt
-weaker P Q (x ∷ xs) each all = (each x all.0, weaker P Q xs each all.1)
-
 steady_kept :
     (r : SetReading) (number m : ℕ) (new : Reading)
     → number < length r.readings
@@ -146,7 +138,7 @@ steady_begun r number new tables turns is inside steady = record {
   below = is.begun.below;
   apart = is.begun.apart;
   running =
-      weaker (HasBegun r) (HasBegun (told r number new r.begun tables turns)) r.begun
+      each_map (HasBegun r) (HasBegun (told r number new r.begun tables turns)) r.begun
       (λ m begun. steady_kept r number m new inside steady begun) is.begun.running;
   all = λ m begun. is.begun.all m (steady_back r number m new inside steady begun);
 }
@@ -171,7 +163,7 @@ pub steady_orders :
     → orders_begun (told r number new r.begun tables turns) ≡ orders_begun r
 steady_orders r number new tables turns is inside steady =
     map_agree (order_of (told r number new r.begun tables turns)) (order_of r) r.begun
-    (weaker (HasBegun r) (λ m. order_of (told r number new r.begun tables turns) m ≡ order_of r m)
+    (each_map (HasBegun r) (λ m. order_of (told r number new r.begun tables turns) m ≡ order_of r m)
     r.begun (λ m begun. steady_order r number m new inside steady begun) is.begun.running)
 
 -- Its lines are as many as before.

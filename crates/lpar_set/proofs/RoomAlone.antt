@@ -86,15 +86,6 @@ size_apart p m size = at (cases_lt p m) where
 abbrev pub half_of : PoolState → ℕ
 half_of pool = 2 ^ (pool.order - 1)
 
-whole_is : (n : ℕ) → 0 < n → 2 ^ n ≡ 2 ^ (n - 1) + 2 ^ (n - 1)
-whole_is n some =
-    let split : 2 ^ n ≡ 2 ^ (n - (n - 1)) * 2 ^ (n - 1) = pow_split (n - 1) n (omega arith) in
-    let one : n - (n - 1) ≡ 1 = omega arith in
-    let two : 2 ^ (n - (n - 1)) ≡ 2 = ap (λ k. 2 ^ k) one in
-    split
-    ∙ ap (λ k. k * 2 ^ (n - 1)) two
-    ∙ (let e : 2 * 2 ^ (n - 1) ≡ 2 ^ (n - 1) + 2 ^ (n - 1) = omega arith in e)
-
 -- It lies in the lower half or in the upper one.
 pub in_half :
     (pool : PoolState) (block : Block)

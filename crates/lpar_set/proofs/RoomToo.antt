@@ -11,10 +11,11 @@ use Rattle.hpt_resize.proofs.Holding.{dropped_keeps, lowest_fits}
 use Rattle.partition.proofs.PoolKept.{dropped_pool}
 use Rattle.lpar_set.proofs.BlocksApart.{AreHeld}
 use Rattle.lpar_set.proofs.CallBlocks.{own_blocks, memory_blocks, holds_is}
-use Rattle.lpar_set.proofs.LoneBlocks.{IsAlone, block_of, only_table}
+use Rattle.lpar_set.proofs.LoneBlocks.{IsAlone, only_table}
 use Rattle.lpar_set.proofs.MovedPrepare.{HasRoomToo}
 use Rattle.lpar_set.proofs.RoomAlone.{smaller, room_beside}
 use Rattle.hpte_fields.specs.TableSize.{least_order}
+use Rattle.partition.specs.PartitionState.{block_of}
 
 -- The current table's block is one of a sound pool's, also once the table that is being prepared
 -- was dropped.

@@ -33,15 +33,6 @@ pub record KeepsRun (w after : Store) : Type 0 where
   pub processors : length after.processors ≡ length w.processors
   pub moves : MovesMemory w.memory after.memory
 
-same_run : (w : Store) → HoldsBlocks w → KeepsRun w w
-same_run w all =
-    record {
-      grants = refl;
-      limit = refl;
-      processors = refl;
-      moves = same_moves w.memory.table w.memory.pending w.memory.pool all;
-    }
-
 -- ---- a line that isn't quiet
 result_keeps :
     (w : Store) (l : TraceLine) (x : Reply × List State)

@@ -4,7 +4,7 @@ use Rattle.std.specs.List.{AllByRecursion, AllPairs, list_all, list_any, range_w
 use Rattle.std.proofs.Common.{◌≡◌, ◌≢◌, ℕ, ◌<◌, ◌≤◌, Bool, true, false, List, [], ◌∷◌, length, map, get_or, Option, Some, None, Ok, Err, refl, sym, ap, ◌∙◌, subst, if◌then◌else◌, ◌&&◌, arith}
 use Rattle.std.proofs.lemmas.Bool.{both_ways, false≢true, true_from_ne_false}
 use Rattle.std.proofs.lemmas.List.{get_or-map, get_or_default, length-map}
-use Rattle.std.proofs.lemmas.List.Elements.{All-from_recursion, All-get_or}
+use Rattle.std.proofs.lemmas.List.Elements.{All-from_recursion}
 use Rattle.std.proofs.lemmas.List.Folds.{Any-from_list_any, list_all_at}
 use Rattle.frame_grants.specs.declared.grant.Grant.{Grant}
 use Rattle.hpt_pool.specs.Pool.{no_blocks}
@@ -18,10 +18,10 @@ use Rattle.lpar_set.specs.SetTrace.{AcceptedSet, AreStrangers, IsAcceptedSet, Is
 use Rattle.lpar_set.specs.SetGrammar.{SetReading, grants_read, has_begun, partition_read, reading_of, set_at_end}
 use Rattle.lpar_set.specs.SetReadings.{HasBegun, IsSetReading, order_of, reading_at}
 use Rattle.lpar_set.proofs.GrantsApart.{pairs_both, strangers_back}
-use Rattle.lpar_set.proofs.Retold.{weaker}
-use Rattle.lpar_set.proofs.SetPlaces.{begun_there, grants_there, is_beside}
+use Rattle.lpar_set.proofs.SetPlaces.{grants_there, is_beside}
 use Rattle.lpar_set.proofs.TakenSteps.{never_ok}
 use Rattle.trace_line.specs.Lines.{most_lines}
+use Rattle.basics.proofs.Each.{each_map}
 
 -- ---- what the end tests
 -- The set that a reading gives.
@@ -88,19 +88,6 @@ some_begun r s is ended =
     let there = is.begun.all found.0
     (occurring_begun r s found.0 ended found.2 (ap is_some here ∙ found.4)) in
     omega (arith, there.1)
-
--- The reading of each partition that has begun is there, and it runs.
-pub record IsThere (r : SetReading) (number : ℕ) : Type 0 where
-  pub reading : reading_at r number ≡ Some (reading_of r number)
-  pub running : HasBegun r number
-
--- So it is at each place in the order of `begin` lines.
-pub begun_are_there :
-    (r : SetReading) (k : ℕ) → IsSetReading r → k < length r.begun → IsThere r (get_or r.begun k 8)
-begun_are_there r k is inside =
-    let begun : HasBegun r (get_or r.begun k 8) = All-get_or (HasBegun r) r.begun k 8 inside
-    (All-from_recursion (HasBegun r) r.begun is.begun.running) in
-    record { reading = begun_there r (get_or r.begun k 8) begun; running = begun }
 
 -- ---- the partitions in the order of their `begin` lines
 each_of :
@@ -217,7 +204,7 @@ read_accepted r is some accepted =
           subst (HasRoomFor (no_blocks r.pool_base r.pool_order)) (sym (orders_read r r.begun))
           is.room;
       turns =
-          weaker (λ (t : Turn). t.partition < length r.begun) (IsTurnOf (set_read r)) r.turns
+          each_map (λ (t : Turn). t.partition < length r.begun) (IsTurnOf (set_read r)) r.turns
           (λ t below. omega (arith, below, size)) is.turns;
       lines = λ k inside. lines_read r k is (omega (arith, inside, size));
       few = omega (arith, counted, few);

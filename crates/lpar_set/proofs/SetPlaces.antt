@@ -39,13 +39,6 @@ none_at r m past =
     ap (λ o. unwrap_or o (reading_beside r.pool_base r.pool_order))
     (get_or_past r.readings m None past)
 
--- One whose `begin` has come occurs.
-pub begun_inside : (r : SetReading) (m : ℕ) → HasBegun r m → m < length r.readings
-begun_inside r m begun = by (cases_lt m (length r.readings)) where
-  by : (m < length r.readings) ⊎ (length r.readings ≤ m) → m < length r.readings
-  by (inl inside) = inside
-  by (inr past) = absurd (false≢true (rw (none_at r m past) at begun))
-
 begun_option :
     (base order : ℕ) (o : Option Reading)
     → is_running (unwrap_or o (reading_beside base order)).stage ≡ true

@@ -2,7 +2,7 @@
 use Rattle.std.specs.Prelude.{slice_index}
 use Rattle.std.proofs.Common.{◌≡◌, ◌≢◌, ◌⊎◌, inl, inr, ℕ, zero, suc, ◌+◌, ◌<◌, ◌≤◌, eqb, true, false, List, [], ◌∷◌, ◌++◌, length, get_or, slice_set, drop, Contains, refl, ap, sym, ◌∙◌, subst, append_assoc, arith}
 use Rattle.std.proofs.lemmas.Bool.{cases_Bool, eqb-true, eq-eqb}
-use Rattle.std.proofs.lemmas.List.{at_drop_more, drop_more, get_or_default, get_or-set_same, get_or-set_other, length-set, length-replicate}
+use Rattle.std.proofs.lemmas.List.{at_drop_more, get_or_default, get_or-set_same, get_or-set_other, length-set, length-replicate}
 use Rattle.frame_grants.specs.Grants.{GrantedMemory}
 use Rattle.hpt_pool.specs.Pool.{PoolState, no_blocks}
 use Rattle.papr_codes.specs.Hcalls.{hcall_of}
@@ -229,26 +229,6 @@ replies_go_on s w new turns i d r front all within reply told =
 -- The text of one turn's reply.
 abbrev pub turn_text : AcceptedSet → Turn → Reply → List ℕ
 turn_text s t r = numbered_reply (partition_at s t.partition).number (line_of s t) r
-
-pub texts_go_on :
-    (s : AcceptedSet) (turns : List Turn) (replies : List Reply) (i : ℕ) (d : Turn) (r : Reply)
-    (out next all : List ℕ)
-    → i < length turns
-    → i < length replies
-    → r ≡ get_or replies i r
-    → next ≡ out ++ turn_text s (get_or turns i d) r
-    → out ++ text_from s (drop i turns) (drop i replies) ≡ all
-    → next ++ text_from s (drop (i + 1) turns) (drop (i + 1) replies) ≡ all
-texts_go_on s turns replies i d r out next all within within' reply put told =
-    let t = get_or turns i d in
-    ap (λ z. z ++ text_from s (drop (i + 1) turns) (drop (i + 1) replies)) put
-    ∙ append_assoc out (turn_text s t r) (text_from s (drop (i + 1) turns) (drop (i + 1) replies))
-    ∙ ap (λ z. out ++ z)
-    (sym
-    (ap (λ ts. text_from s ts (drop i replies)) (drop_more turns i d within)
-    ∙ ap (λ rs. text_from s (t ∷ drop (i + 1) turns) rs) (drop_more replies i r within')
-    ∙ ap (λ x. text_from s (t ∷ drop (i + 1) turns) (x ∷ drop (i + 1) replies)) (sym reply)))
-    ∙ told
 
 pub run_text_goes_on :
     (s : AcceptedSet) (w new : SetState) (turns : List Turn) (i : ℕ) (d : Turn) (r : Reply)

@@ -50,6 +50,7 @@ own_pending w k is inside =
 abbrev pub with_parts : SetState → ℕ → PoolState → MemberState → SetState
 with_parts w k pool m = record { pool = pool; members = slice_set w.members k m }
 
+-- A line's reply, and the set that the line leaves.
 abbrev pub in_set : Reply → SetState → Reply × SetState
 in_set r w = (r, w)
 
@@ -92,6 +93,7 @@ still_set (Err e) w k m m' pool' l r between inside is moved same same_pool =
     subst IsSetState (sym (same_parts w k m m' pool' is same same_pool)) between
 
 -- ---- the beginning
+-- The set of these partitions over this pool.
 abbrev pub set_of : PoolState → List MemberState → SetState
 set_of pool members = record { pool = pool; members = members }
 

@@ -1,6 +1,6 @@
 -- The set of worked values is an accepted one, so that what is promised of accepted sets is
 -- promised of some.
-use Rattle.std.proofs.Common.{◌≡◌, ◌≢◌, ℕ, zero, suc, ◌<◌, List, [], ◌∷◌, false, map, length, refl, arith}
+use Rattle.std.proofs.Common.{◌≡◌, ℕ, zero, suc, ◌<◌, List, [], ◌∷◌, false, map, length, refl, arith}
 use Rattle.std.specs.List.{AllPairs, All, range_with_len}
 use Rattle.std.proofs.lemmas.List.Elements.{All-from_recursion, All-nil}
 use Rattle.std.proofs.lemmas.List.Kept.{AllPairs-cons}
@@ -13,7 +13,7 @@ use Rattle.trace_line.specs.declared.line.TraceLine.{TraceLine}
 use Rattle.trace_line.specs.Lines.{IsTrace, is_quiet}
 use Rattle.lpar_set.specs.declared.turn.Turn.{Turn}
 use Rattle.lpar_set.specs.OpeningTables.{HasRoomFor}
-use Rattle.lpar_set.specs.SetTrace.{NumberedTrace, IsAcceptedSet, IsOfSet, AreStrangers, partition_at, turns_of}
+use Rattle.lpar_set.specs.SetTrace.{IsOfSet, partition_at, turns_of}
 use Rattle.lpar_set.proofs.SmallSet.{storage, storage_at, small_partition, lower_lines, higher_lines, small_set}
 
 -- ---- the pool and the grants
@@ -135,8 +135,6 @@ higher =
     }) refl higher_trace
 
 -- ---- the set
-pair : {A : Type 0} (R : A → A → Type 0) (x y : A) → R x y → AllPairs R (x ∷ y ∷ [])
-pair R x y h = AllPairs-cons R x (y ∷ []) (only (R x) y h) (alone R y)
 
 room : HasRoomFor (no_blocks 0x1000000000 19) (18 ∷ 18 ∷ [])
 unfolding lowest_place multiples taken_with
@@ -150,28 +148,3 @@ lines :
 lines zero inside = refl
 lines (suc zero) inside = refl
 lines (suc (suc k)) inside = absurd (omega (arith, inside))
-
-pub small_accepted : IsAcceptedSet small_set
-small_accepted = record {
-  pool = pool;
-  some = omega arith;
-  each = (lower, (higher, tt));
-  numbers =
-      pair (λ (p q : NumberedTrace). p.number ≢ q.number) _ _
-      (λ same. absurd (omega (arith, same)));
-  strangers =
-      pair
-      (λ (p q : NumberedTrace).
-      AreStrangers p.trace.config.granted.grants q.trace.config.granted.grants) _ _
-      ((refl, tt), tt);
-  room = room;
-  turns = (
-    omega arith,
-    (
-      omega arith,
-      (omega arith, (omega arith, (omega arith, (omega arith, (omega arith, tt))))),
-    ),
-  );
-  lines = lines;
-  few = omega arith;
-}

@@ -62,6 +62,7 @@ higher_lines =
     ∷ []
 
 -- ---- the set
+-- The turn of the partition at an index, with its line at an index.
 abbrev pub turn : ℕ → ℕ → Turn
 turn partition line = record { partition = partition; line = line }
 
@@ -94,6 +95,8 @@ full_pool = record {
   taken = block_at 0x1000000000 18 ∷ block_at 0x1000040000 18 ∷ [];
 }
 
+-- The set before its first line: each of the two partitions has one of the pool's blocks for its
+-- table.
 abbrev pub opened : SetState
 opened = record {
   pool = full_pool;

@@ -1,6 +1,6 @@
 -- The lines of one partition of a set as an input of their own, and what all lines of a set say by
 -- themselves.
-use Rattle.std.specs.Prelude.{ℕ, ◌==◌, ◌&&◌, Bool, false, true, List, [], ◌∷◌, map, filter_map, codes, is_some, Option, Some, None, Result, Ok, Err, if◌then◌else◌}
+use Rattle.std.specs.Prelude.{ℕ, ◌&&◌, Bool, false, true, List, [], ◌∷◌, map, filter_map, codes, is_some, Option, None, Result, Ok, Err, if◌then◌else◌}
 use Rattle.std.specs.Str.{bytes_eq}
 use Rattle.hpt_pool.specs.Pool.{PoolState, no_blocks}
 use Rattle.trace_read.specs.declared.forms.Form.{Form}
@@ -15,6 +15,7 @@ use Rattle.trace_read.specs.TextLines.{is_blank, is_remark, without_cr, words_of
 use Rattle.trace_read.specs.Trace.{AcceptedTrace}
 use Rattle.trace_read.specs.Whys.{◌>>=◌}
 use Rattle.lpar_set.specs.OpeningTables.{with_openings}
+use Rattle.basics.specs.Words.{is_number}
 
 -- ---- a line
 -- The words of a line, at whose end one CR is dropped.
@@ -45,11 +46,6 @@ first_number (w ∷ ws) = number_of w
 abbrev pub own_words : List (List ℕ) → List (List ℕ)
 own_words [] = []
 own_words (w ∷ ws) = ws
-
--- What is there is this number.
-abbrev pub is_number : ℕ → Option ℕ → Bool
-is_number number None = false
-is_number number (Some other) = other == number
 
 -- The line is the partition's: its first word is the partition's number.
 abbrev pub is_line_of : ℕ → List ℕ → Bool

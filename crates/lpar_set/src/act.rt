@@ -6,7 +6,7 @@ ghost use Rattle.papr_table.specs.TableState.{IsMade, IsSeen, IsGone};
 ghost use Rattle.hpt_walk.specs.Access.{access_context};
 ghost use Rattle.trace_line.specs.Lines.{is_quiet};
 ghost use Rattle.trace_reply.specs.Replies.{receipts_in};
-ghost use Rattle.trace_reply.specs.Places.{reply_in};
+ghost use Rattle.trace_reply.specs.Slots.{reply_in};
 ghost use Rattle.run_model.specs.Processors.{processor_after, gone_line_of};
 ghost use Rattle.run_model.specs.LineReplies.{IsCallReply, IsReplyToAccess};
 ghost use Rattle.run_model.specs.SerialRun.{line_result};
@@ -18,7 +18,7 @@ use papr_codes::Hcall;
 use papr_table::PlainTable;
 use run_model::{Surroundings, make_call};
 use trace_line::Act;
-use trace_reply::{ReplyEnd, ReplyPlace};
+use trace_reply::{ReplyEnd, ReplySlot};
 use vcpu::Cpu;
 
 /// Runs a line that isn't quiet on a table that nobody else is at, by this processor. Its reply
@@ -28,23 +28,23 @@ pub fn run_act(
     cpu: &mut Cpu,
     grants: &Grants,
     act: &Act,
-    place: &mut ReplyPlace,
+    slot: &mut ReplySlot,
 )
     requires not_quiet { is_quiet act.now ≡ false }
     requires seen { AllCached (IsSeen table.old) cpu.old.cache }
-    ensures reply { (reply_in place.new, table.new.states)
+    ensures reply { (reply_in slot.new, table.new.states)
         ≡ line_result
         (table_context (access_context table.old.order grants.now.grants))
         cpu.old
         table.old.states
         act.now }
-    ensures run { IsRun table.old.states (receipts_in (reply_in place.new)) table.new.states }
-    ensures processor { cpu.new ≡ processor_after cpu.old act.now (reply_in place.new) }
+    ensures run { IsRun table.old.states (receipts_in (reply_in slot.new)) table.new.states }
+    ensures processor { cpu.new ≡ processor_after cpu.old act.now (reply_in slot.new) }
     ensures order { table.new.order ≡ table.old.order }
     ensures size { length table.new.states ≡ length table.old.states }
     ensures seen { AllCached (IsSeen table.new) cpu.new.cache }
 {
-    apply_act(table, cpu, grants, act, place);
+    apply_act(table, cpu, grants, act, slot);
 }
 
 /// The same, by what the calls and accesses themselves tell of their replies.
@@ -53,30 +53,30 @@ fn apply_act(
     cpu: &mut Cpu,
     grants: &Grants,
     act: &Act,
-    place: &mut ReplyPlace,
+    slot: &mut ReplySlot,
 )
     requires not_quiet { is_quiet act.now ≡ false }
     requires seen { AllCached (IsSeen table.old) cpu.old.cache }
-    ensures made { IsMade table.old table.new (receipts_in (reply_in place.new)) }
+    ensures made { IsMade table.old table.new (receipts_in (reply_in slot.new)) }
     ensures call { IsCallReply
         (table_context (access_context table.old.order grants.now.grants))
         act.now
-        (reply_in place.new) }
+        (reply_in slot.new) }
     ensures access { IsReplyToAccess
         (access_context table.old.order grants.now.grants)
         cpu.old
         act.now
-        (reply_in place.new) }
-    ensures processor { cpu.new ≡ processor_after cpu.old act.now (reply_in place.new) }
+        (reply_in slot.new) }
+    ensures processor { cpu.new ≡ processor_after cpu.old act.now (reply_in slot.new) }
     ensures seen { AllCached (IsSeen table.new) cpu.new.cache }
 
     // Of a cached line that was gone, the line's own receipts come later, and it is gone for the
     // table.
     ensures comes_later { IfSome
-        (gone_line_of cpu.old act.now (reply_in place.new))
-        (λ line. AllLater line (receipts_in (reply_in place.new))) }
+        (gone_line_of cpu.old act.now (reply_in slot.new))
+        (λ line. AllLater line (receipts_in (reply_in slot.new))) }
     ensures gone { IfSome
-        (gone_line_of cpu.old act.now (reply_in place.new))
+        (gone_line_of cpu.old act.now (reply_in slot.new))
         (IsGone table.new) }
 {
     match *act {
@@ -87,27 +87,27 @@ fn apply_act(
                 grants,
                 window: None,
             };
-            let registers = make_call(table, &around, hcall, &args, &mut place.receipts);
-            place.end = ReplyEnd::Hcall(registers);
+            let registers = make_call(table, &around, hcall, &args, &mut slot.receipts);
+            slot.end = ReplyEnd::Hcall(registers);
         }
         Act::Access { want, ea, user } => {
-            let end = cpu.access_into(table, grants, ea, want, user, &mut place.receipts);
-            place.end = ReplyEnd::Access(end);
+            let end = cpu.access_into(table, grants, ea, want, user, &mut slot.receipts);
+            slot.end = ReplyEnd::Access(end);
         }
         Act::Device { .. } => {
-            place.receipts.clear();
-            place.end = ReplyEnd::Device(DeviceOutcome::NoWindow);
+            slot.receipts.clear();
+            slot.end = ReplyEnd::Device(DeviceOutcome::NoWindow);
         }
-        Act::SlbMte { rb, rs } => place.end = ReplyEnd::Segment(cpu.mte(rb, rs).is_ok()),
+        Act::SlbMte { rb, rs } => slot.end = ReplyEnd::Segment(cpu.mte(rb, rs).is_ok()),
         Act::SlbClear => {
             cpu.clear_slb();
-            place.end = ReplyEnd::Segment(true);
+            slot.end = ReplyEnd::Segment(true);
         }
         Act::SetMask { name, value } => {
             cpu.masks().set(name, value);
-            place.end = ReplyEnd::MaskSet;
+            slot.end = ReplyEnd::MaskSet;
         }
         // Not reached: a dump is quiet.
-        Act::Dump => place.end = ReplyEnd::Segment(true),
+        Act::Dump => slot.end = ReplyEnd::Segment(true),
     }
 }

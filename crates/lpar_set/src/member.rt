@@ -3,7 +3,7 @@ ghost use Rattle.hpt_pool.specs.Pool.{PoolState, block_at, lowest_place};
 ghost use Rattle.hpt_resize.specs.Resize.{IsHeld};
 ghost use Rattle.hpt_resize.specs.TableMemory.{prepare_result, commit_result};
 ghost use Rattle.trace_line.specs.Lines.{is_quiet};
-ghost use Rattle.trace_reply.specs.Places.{reply_in};
+ghost use Rattle.trace_reply.specs.Slots.{reply_in};
 ghost use Rattle.run_model.specs.QuietLines.{run_quiet_line, run_resize, after_prepare, after_commit, shown_of, is_success};
 ghost use Rattle.tlb_model.specs.Processor.{without_cache};
 ghost use Rattle.run_model.specs.SerialRun.{run_on};
@@ -23,7 +23,7 @@ use std::marker::Model;
 use std::mem;
 use trace_line::{Act, TraceLine};
 use trace_read::Config;
-use trace_reply::{Reply, ReplyPlace, Shown};
+use trace_reply::{Reply, ReplySlot, Shown};
 use vcpu::{Cpu, clear_caches, empty_cpus};
 
 /// A partition of a set between two of its lines: all that it carries but the pool, in which the
@@ -98,7 +98,7 @@ impl Member {
         alloc: Global,
         pool: &mut Pool,
         line: &TraceLine,
-        place: &mut ReplyPlace,
+        slot: &mut ReplySlot,
     ) -> Result<(), AllocError>
         requires cpu { line.now.cpu < length self.old.processors }
         requires number { self.old.table.number < 2 ^ 32 - 1 }
@@ -108,26 +108,26 @@ impl Member {
             (block_at self.old.table.place self.old.table.order) }
         ensures reply { OnOk
             result
-            ((reply_in place.new, with_pool pool.new self.new)
+            ((reply_in slot.new, with_pool pool.new self.new)
             ≡ run_on (with_pool pool.old self.old) line.now) }
         ensures memory { OnErr result (is_quiet line.now.act ≡ true) }
         ensures same { OnErr result (self.new ≡ self.old) }
         ensures same_pool { OnErr result (pool.new ≡ pool.old) }
     {
         if line.act.is_quiet() {
-            self.quiet(alloc, pool, &line.act, place)
+            self.quiet(alloc, pool, &line.act, slot)
         } else {
-            self.run(pool, line, place);
+            self.run(pool, line, slot);
             Ok(())
         }
     }
 
     // A line that isn't quiet, by its processor. It leaves the pool.
     #[tactic(auto, unfolding(run_model::specs::SerialRun::run_on))]
-    fn run(&mut self, pool: &Pool, line: &TraceLine, place: &mut ReplyPlace)
+    fn run(&mut self, pool: &Pool, line: &TraceLine, slot: &mut ReplySlot)
         requires not_quiet { is_quiet line.now.act ≡ false }
         requires cpu { line.now.cpu < length self.old.processors }
-        ensures reply { (reply_in place.new, with_pool pool.now self.new)
+        ensures reply { (reply_in slot.new, with_pool pool.now self.new)
             ≡ run_on (with_pool pool.now self.old) line.now }
     {
         let order = self.current.order;
@@ -135,7 +135,7 @@ impl Member {
         let states = mem::replace(&mut self.current.states, Vec::new(alloc));
         let mut table = PlainTable::open(states, order);
         let cpu = &mut self.cpus[line.cpu as usize];
-        run_act(&mut table, cpu, &self.grants, &line.act, place);
+        run_act(&mut table, cpu, &self.grants, &line.act, slot);
         self.current.states = table.close();
     }
 
@@ -147,7 +147,7 @@ impl Member {
         alloc: Global,
         pool: &mut Pool,
         act: &Act,
-        place: &mut ReplyPlace,
+        slot: &mut ReplySlot,
     ) -> Result<(), AllocError>
         requires quiet { is_quiet act.now ≡ true }
         requires number { self.old.table.number < 2 ^ 32 - 1 }
@@ -157,7 +157,7 @@ impl Member {
             (block_at self.old.table.place self.old.table.order) }
         ensures reply { OnOk
             result
-            ((reply_in place.new, with_pool pool.new self.new)
+            ((reply_in slot.new, with_pool pool.new self.new)
             ≡ run_quiet_line (with_pool pool.old self.old) act.now) }
         ensures same { OnErr result (self.new ≡ self.old) }
         ensures same_pool { OnErr result (pool.new ≡ pool.old) }
@@ -165,9 +165,9 @@ impl Member {
         match *act {
             Act::Call { number, args, .. } => {
                 let reply = self.resize(alloc, pool, Hcall::of_number(number), &args)?;
-                place.put(Reply::Hcall(reply));
+                slot.put(Reply::Hcall(reply));
             }
-            _ => place.put(Reply::Dump(self.shown(alloc)?)),
+            _ => slot.put(Reply::Dump(self.shown(alloc)?)),
         }
         Ok(())
     }

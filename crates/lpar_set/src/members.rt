@@ -1,6 +1,6 @@
 ghost use Rattle.std.specs.Prelude.{◌≡◌, ◌<◌, ◌-◌, ◌^◌, true, length, map, IfOk, OnOk, OnErr};
 ghost use Rattle.trace_line.specs.Lines.{is_quiet};
-ghost use Rattle.trace_reply.specs.Places.{reply_in};
+ghost use Rattle.trace_reply.specs.Slots.{reply_in};
 ghost use Rattle.lpar_set.specs.OpeningTables.{HasRoomFor};
 ghost use Rattle.lpar_set.specs.SetTrace.{NumberedTrace};
 ghost use Rattle.lpar_set.specs.SetRun.{opening_pool, opening_members, opening_set, member_at, set_line};
@@ -11,7 +11,7 @@ use hpt_pool::Pool;
 use std::alloc::{AllocError, Global};
 use std::marker::Model;
 use trace_line::TraceLine;
-use trace_reply::ReplyPlace;
+use trace_reply::ReplySlot;
 
 /// The partitions of a set between two lines, in the order of their `begin` lines, and the pool
 /// that they share.
@@ -73,17 +73,17 @@ impl Members {
         alloc: Global,
         partition: u8,
         line: &TraceLine,
-        place: &mut ReplyPlace,
+        slot: &mut ReplySlot,
     ) -> Result<(), AllocError>
         requires partition { partition < length self.old.members }
         requires cpu { line.now.cpu < length (member_at self.old partition).processors }
         requires number { (member_at self.old partition).table.number < 2 ^ 32 - 1 }
         ensures reply { OnOk
             result
-            ((reply_in place.new, self.new) ≡ set_line self.old partition line.now) }
+            ((reply_in slot.new, self.new) ≡ set_line self.old partition line.now) }
         ensures memory { OnErr result (is_quiet line.now.act ≡ true) }
         ensures same { OnErr result (self.new ≡ self.old) }
     {
-        self.members[partition as usize].line(alloc, &mut self.pool, line, place)
+        self.members[partition as usize].line(alloc, &mut self.pool, line, slot)
     }
 }

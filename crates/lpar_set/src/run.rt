@@ -5,7 +5,7 @@ ghost use Rattle.lpar_set.specs.SetRun.{opening_set, set_replies};
 use crate::members::Members;
 use crate::set::SetTrace;
 use std::alloc::{AllocError, Global};
-use trace_reply::{Replies, ReplyPlace};
+use trace_reply::{Replies, ReplySlot};
 
 /// The replies to all lines of a set, whose partitions are before their first ones.
 fn run_turns(alloc: Global, set: &SetTrace, members: &mut Members) -> Result<Replies, AllocError>
@@ -19,9 +19,9 @@ fn run_turns(alloc: Global, set: &SetTrace, members: &mut Members) -> Result<Rep
     let mut replies = Replies::new(alloc);
     replies.reserve(turns.len())?;
     for turn in turns {
-        let mut place = ReplyPlace::new();
-        members.line(alloc, turn.partition, set.line_of(turn), &mut place)?;
-        replies.push(place.into_reply())?;
+        let mut slot = ReplySlot::new();
+        members.line(alloc, turn.partition, set.line_of(turn), &mut slot)?;
+        replies.push(slot.into_reply())?;
     }
     Ok(replies)
 }

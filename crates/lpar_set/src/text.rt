@@ -1,6 +1,6 @@
 ghost use Rattle.std.specs.Prelude.{◌≡◌, ◌++◌, length, IfOk, OnOk, string_bytes};
 ghost use Rattle.std.specs.List.{flat_map};
-ghost use Rattle.trace_reply.specs.Places.{reply_in};
+ghost use Rattle.trace_reply.specs.Slots.{reply_in};
 ghost use Rattle.lpar_set.specs.SetLaws.{IsSetAssured};
 ghost use Rattle.lpar_set.specs.SetRun.{opening_set, set_replies};
 ghost use Rattle.lpar_set.specs.SetText.{number_text, numbered_entry, numbered_reply};
@@ -9,10 +9,10 @@ use crate::members::Members;
 use crate::set::SetTrace;
 use entry_model::EntryState;
 use number_text::put_decimal;
-use reply_text::{put_entry, put_place, put_reply, put_table};
+use reply_text::{put_entry, put_reply, put_slot, put_table};
 use std::alloc::{AllocError, Global};
 use trace_line::TraceLine;
-use trace_reply::{Replies, Reply, ReplyEnd, ReplyPlace, Shown};
+use trace_reply::{Replies, Reply, ReplyEnd, ReplySlot, Shown};
 
 /// Appends the partition's number, and a space.
 fn put_number(out: &mut String, number: u8) -> Result<(), AllocError>
@@ -72,23 +72,23 @@ fn put_numbered(
     put_reply(out, line, reply)
 }
 
-/// The same for the reply that has the place.
-fn put_numbered_place(
+/// The same for the reply in the slot.
+fn put_numbered_slot(
     out: &mut String,
     number: u8,
     line: &TraceLine,
-    place: &ReplyPlace,
+    slot: &ReplySlot,
 ) -> Result<(), AllocError>
     ensures { OnOk
         result
         (string_bytes out.new
-        ≡ string_bytes out.old ++ numbered_reply number line.now (reply_in place.now)) }
+        ≡ string_bytes out.old ++ numbered_reply number line.now (reply_in slot.now)) }
 {
-    if let ReplyEnd::Dump(shown) = &place.end {
+    if let ReplyEnd::Dump(shown) = &slot.end {
         return put_dump(out, number, line, shown);
     }
     put_number(out, number)?;
-    put_place(out, line, place)
+    put_slot(out, line, slot)
 }
 
 /// The text of replies to the lines of a set, in file order: a line for each, and for a dump a
@@ -127,12 +127,12 @@ fn turns_to_text(alloc: Global, set: &SetTrace, members: &mut Members) -> Result
     set.keeps_limits();
     let turns = set.turns();
     let mut out = String::new(alloc);
-    // One place for the replies to all lines.
-    let mut place = ReplyPlace::new();
+    // One slot for the replies to all lines.
+    let mut slot = ReplySlot::new();
     for turn in turns {
         let line = set.line_of(turn);
-        members.line(alloc, turn.partition, line, &mut place)?;
-        put_numbered_place(&mut out, set.number_of(turn), line, &place)?;
+        members.line(alloc, turn.partition, line, &mut slot)?;
+        put_numbered_slot(&mut out, set.number_of(turn), line, &slot)?;
     }
     Ok(out)
 }

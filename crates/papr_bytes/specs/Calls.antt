@@ -26,16 +26,16 @@ words_named first second third = (word_of first ++ word_of second) ++ word_of th
 abbrev pub no_memory : CallEnd
 no_memory = record { status = 5; length = 0 }
 
--- The text is put first into the caller's place with the call's status, or the place is too small,
+-- The text is put first into the caller's room with the call's status, or the room is too small,
 -- and stays.
 abbrev pub handed : Status → List ℕ → List ℕ → CallEnd × List ℕ
-handed status text place =
-    if nat_le (length text) (length place)
+handed status text room =
+    if nat_le (length text) (length room)
     then (
       record { status = status_number status; length = length text },
-      text ++ drop (length text) place,
+      text ++ drop (length text) room,
     )
-    else (record { status = 7; length = length text }, place)
+    else (record { status = 7; length = length text }, room)
 
 -- The input is all that the source has, and the text is all that the sink took.
 abbrev pub sides_of : List ℕ → List ℕ → List ℕ → ℕ → Sides
@@ -56,9 +56,9 @@ sides_of input left text faults = record {
 pub record Called
     (named : List (List ℕ))
     (input : List ℕ)
-    (place : List ℕ)
+    (room : List ℕ)
     (end : CallEnd)
-    (place_after : List ℕ)
+    (room_after : List ℕ)
     : Type 0
   where
     pub words : List (String Global)
@@ -68,9 +68,9 @@ pub record Called
     pub faults : ℕ
     pub spelt : spelt words ≡ named
     pub ends : EndsCommand (without_par (command_of words)) (sides_of input left text faults) status
-    pub handed : (end, place_after) ≡ handed status text place
+    pub handed : (end, room_after) ≡ handed status text room
 
--- What a call answers and leaves in the caller's place.
+-- What a call answers and leaves in the caller's room.
 abbrev pub IsCall : List (List ℕ) → List ℕ → List ℕ → CallEnd → List ℕ → Type 0
-IsCall named input place end place_after =
-    ((end ≡ no_memory) × (place_after ≡ place)) ⊎ Called named input place end place_after
+IsCall named input room end room_after =
+    ((end ≡ no_memory) × (room_after ≡ room)) ⊎ Called named input room end room_after

@@ -18,21 +18,21 @@ fn called(
     second: &[u8],
     third: &[u8],
     input: &[u8],
-    place: &mut [u8],
+    room: &mut [u8],
 ) -> Result<CallEnd, AllocError>
     ensures ok { IfOk result
-        (λ e. Called (words_named first.now second.now third.now) input.now place.old e place.new) }
-    ensures err { OnErr result (place.new ≡ place.old) }
+        (λ e. Called (words_named first.now second.now third.now) input.now room.old e room.new) }
+    ensures err { OnErr result (room.new ≡ room.old) }
 {
     let words = words_in(alloc, first, second, third)?;
     let mut source = SteadySource::new(input.to_vec(alloc)?, PIECE);
     let mut sink = KeptSink::new(alloc);
     let status = papr_serial(alloc, &words, &mut source, &mut sink);
-    Ok(hand_over(status, &sink.text, place))
+    Ok(hand_over(status, &sink.text, room))
 }
 
 /// Calls the program with at most three words; empty ones are left out. The input stands for
-/// standard input, and what the program writes is put into `place`. Where that is too small the
+/// standard input, and what the program writes is put into `room`. Where that is too small the
 /// status is 7, nothing is put there, and the length is the room that is wanted.
 #[unsafe(no_mangle)]
 pub extern "C" fn papr_bytes_call(
@@ -41,16 +41,16 @@ pub extern "C" fn papr_bytes_call(
     second: &[u8],
     third: &[u8],
     input: &[u8],
-    place: &mut [u8],
+    room: &mut [u8],
 ) -> CallEnd
     ensures { IsCall
         (words_named first.now second.now third.now)
         input.now
-        place.old
+        room.old
         result
-        place.new }
+        room.new }
 {
-    match called(alloc, first, second, third, input, place) {
+    match called(alloc, first, second, third, input, room) {
         Ok(end) => end,
         Err(_) => CallEnd::no_memory(),
     }

@@ -7,13 +7,13 @@ use papr_top::Status;
 #[repr(C)]
 #[derive(Clone, Copy)]
 pub struct CallEnd {
-    /// The program's exit status, or 7 where the place is too small.
+    /// The program's exit status, or 7 where the room is too small.
     pub status: u32,
     /// In bytes: of what was written, or of the room that is wanted.
     pub length: u64,
 }
 
-/// The status where the caller's place is too small for what was written.
+/// The status where the caller's room is too small for what was written.
 const NO_ROOM: u32 = 7;
 
 impl CallEnd {
@@ -28,18 +28,18 @@ impl CallEnd {
     }
 }
 
-/// Puts what was written into the caller's place, if it has room for all of it.
-pub fn hand_over(status: Status, text: &[u8], place: &mut [u8]) -> CallEnd
-    ensures { (result, place.new) ≡ handed status text.now place.old }
+/// Puts what was written into the caller's room, if that holds all of it.
+pub fn hand_over(status: Status, text: &[u8], room: &mut [u8]) -> CallEnd
+    ensures { (result, room.new) ≡ handed status text.now room.old }
 {
     let length = text.len();
-    if place.len() < length {
+    if room.len() < length {
         return CallEnd {
             status: NO_ROOM,
             length: length as u64,
         };
     }
-    place[..length].copy_from_slice(text);
+    room[..length].copy_from_slice(text);
     CallEnd {
         status: u32::from(status.number()),
         length: length as u64,

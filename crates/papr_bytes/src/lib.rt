@@ -3,7 +3,7 @@
 //! same in C.
 //!
 //! The words are those behind the program's name, and the input stands for standard input. What the
-//! program writes is put into the caller's place. Nothing is kept between two calls.
+//! program writes is put into the caller's room. Nothing is kept between two calls.
 #![tactic(auto)]
 
 mod call;

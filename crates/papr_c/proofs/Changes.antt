@@ -10,10 +10,9 @@ use Rattle.entry_model.specs.declared.operation.Answer.TheVariants.{Entered, Tak
 use Rattle.entry_model.specs.declared.operation.Op.{Op}
 use Rattle.entry_model.specs.declared.operation.Op.TheVariants.{Enter, Remove, Protect, Read, ClearRef, ClearMod, Access}
 use Rattle.entry_model.specs.declared.receipt.Receipt.{Receipt}
-use Rattle.entry_model.specs.Receipt.{after_of, is_at}
+use Rattle.entry_model.specs.Receipt.{after_of, is_at, is_change}
 use Rattle.entry_model.specs.Reply.{reply_of, change_to, change_where, entered_state, is_found, access_mode, is_match, is_allowed, masks_refuse, touched_state}
 use Rattle.entry_model.proofs.OperationLaws.{access_undone}
-use Rattle.papr_c.specs.Tried.{is_change}
 
 -- An access changes nothing but R and C.
 accessed :

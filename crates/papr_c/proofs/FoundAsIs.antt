@@ -1,6 +1,6 @@
 -- What a walk of entries finds, by each of them as it is.
 use Rattle.std.specs.Prelude.{map, slice_set}
-use Rattle.std.proofs.Common.{◌≡◌, ℕ, ◌+◌, ◌*◌, List, [], ◌∷◌, ◌++◌, drop, Bool, true, false, Option, Some, None, refl, ap, sym, subst, ◌∙◌, ◌⊎◌, inl, inr}
+use Rattle.std.proofs.Common.{◌≡◌, ℕ, ◌+◌, ◌*◌, List, [], ◌∷◌, drop, Bool, true, false, Option, Some, None, refl, ap, sym, subst, ◌∙◌, ◌⊎◌, inl, inr}
 use Rattle.std.specs.List.{AllByRecursion, range_with_len}
 use Rattle.std.proofs.lemmas.Bool.{cases_Bool}
 use Rattle.std.proofs.Math.Numerals.{add-one}
@@ -9,11 +9,9 @@ use Rattle.storage_prot.specs.declared.want.Want.{Want}
 use Rattle.power_addr.specs.Pages.{VirtualPage}
 use Rattle.hpt_hash.specs.Hash.{group_of}
 use Rattle.entry_model.specs.State.{State, empty_state}
-use Rattle.entry_model.specs.declared.operation.Answer.{Answer}
-use Rattle.entry_model.specs.declared.operation.Answer.TheVariants.{NoMatch}
 use Rattle.entry_model.specs.declared.operation.Op.{Op}
 use Rattle.entry_model.specs.declared.receipt.Receipt.{Receipt}
-use Rattle.entry_model.specs.Receipt.{after_of, is_access, is_at, is_no_match, found_of}
+use Rattle.entry_model.specs.Receipt.{after_of, is_access, is_no_match, found_of}
 use Rattle.entry_model.specs.Run.{states_after}
 use Rattle.entry_model.specs.Trial.{Call, call, receipt_at, trial_run}
 use Rattle.entry_model.proofs.OperationLaws.{access_undone}
@@ -26,13 +24,11 @@ use Rattle.c_layout.specs.WalkEnds.{mode_of, walk_end}
 use Rattle.papr_c.specs.Walks.{each_as_is, walk_run, outcome_of_probe}
 use Rattle.c_layout.specs.Accesses.{page_of, want_of}
 use Rattle.entry_model.specs.Calls.{call_at}
+use Rattle.basics.proofs.Each.{each_append}
 use Rattle.papr_c.proofs.SoFar.{drop_at, drop_none, step_on, step_off, no_more}
+use Rattle.entry_model.proofs.Trials.{no_match_not_at}
 
 -- ---- nothing changes before the entry that is found
-no_match_is : (x : Answer) → is_no_match x ≡ true → is_at x ≡ false
-no_match_is NoMatch e = refl
-no_match_is other e = cc
-
 found_as_is :
     (a : List State) (cs : List Call)
     → AllByRecursion (λ (c : Call). is_access c.op ≡ true) cs
@@ -48,7 +44,8 @@ found_as_is a (c ∷ cs) all = at (cases_Bool (is_no_match r.answer)) (found_as_
       → found_of (trial_run is_no_match a cs).0 ≡ found_of (each_as_is a cs)
       → found_of (trial_run is_no_match a (c ∷ cs)).0 ≡ found_of (r ∷ each_as_is a cs)
   at (inl on) rest =
-      let same : after_of r ≡ r.before = access_undone r.before c.op all.0 (no_match_is r.answer on)
+      let same :
+      after_of r ≡ r.before = access_undone r.before c.op all.0 (no_match_not_at r.answer on)
       in
       let stays : states_after a r ≡ a = ap (λ (s : State). slice_set a c.entry s) same ∙ set-get_or
       a c.entry (empty_state 0) in
@@ -70,20 +67,13 @@ all_accesses :
 all_accesses page a want secondary [] = tt
 all_accesses page a want secondary (e ∷ es) = (refl, all_accesses page a want secondary es)
 
-both_all :
-    (cs ds : List Call)
-    → AllByRecursion (λ (c : Call). is_access c.op ≡ true) cs
-    → AllByRecursion (λ (c : Call). is_access c.op ≡ true) ds
-    → AllByRecursion (λ (c : Call). is_access c.op ≡ true) (cs ++ ds)
-both_all [] ds p q = q
-both_all (c ∷ cs) ds p q = (p.0, both_all cs ds p.1 q)
-
 walk_accesses :
     (order : ℕ) (a : PaprAccess) (page : VirtualPage) (want : Want)
     → AllByRecursion (λ (c : Call). is_access c.op ≡ true) (walk_calls order page (mode_of a want))
 unfolding walk_calls
 walk_accesses order a page want =
-    both_all (group_calls (access_op page (mode_of a want) false) (group_of page order false))
+    each_append (λ (c : Call). is_access c.op ≡ true)
+    (group_calls (access_op page (mode_of a want) false) (group_of page order false))
     (group_calls (access_op page (mode_of a want) true) (group_of page order true))
     (all_accesses page a want false (range_with_len (group_of page order false * 8) 8))
     (all_accesses page a want true (range_with_len (group_of page order true * 8) 8))

@@ -1,7 +1,7 @@
 -- What a call that isn't stale leaves of valid entries.
-use Rattle.std.specs.Prelude.{◌==◌, ◌||◌, if◌then◌else◌}
+use Rattle.std.specs.Prelude.{◌==◌, if◌then◌else◌}
 use Rattle.std.proofs.Common.{◌≡◌, ℕ, ◌<◌, ◌≤◌, List, [], ◌∷◌, length, Bool, true, false, refl, ap, sym, subst, ◌∙◌, ◌⊎◌, inl, inr}
-use Rattle.std.proofs.lemmas.Bool.{cases_Bool, cases_eq, cases_lt}
+use Rattle.std.proofs.lemmas.Bool.{cases_Bool, cases_eq, cases_lt, or_parts}
 use Rattle.std.proofs.lemmas.List.{get_or-set_same, get_or-set_other, get_or_past}
 use Rattle.hpte_fields.specs.Fields.{protected_word}
 use Rattle.entry_model.specs.State.{State, OnlyRaisesBits, empty_state}
@@ -90,11 +90,6 @@ step_kept a c entry valid fresh = at (cases_eq entry c.entry) (cases_lt c.entry 
       (empty_state 0) past in
       let e : false ≡ true = sym (ap (λ (s : State). s.valid) none) ∙ valid in
       cc
-
--- ---- all of them
-or_parts : (x y : Bool) → (x || y) ≡ false → (x ≡ false) × (y ≡ false)
-or_parts false y e = (refl, e)
-or_parts true y e = cc
 
 stale_parts :
     (r : Receipt) (rs : List Receipt)

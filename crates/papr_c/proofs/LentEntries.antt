@@ -1,21 +1,19 @@
 -- Entries that are lent: what is read of one, and what it is to give one another state.
 use Rattle.std.specs.Prelude.{◌&&◌, ◌==◌, nat_le}
-use Rattle.std.proofs.Common.{◌≡◌, ℕ, Bool, true, false, zero, suc, ◌+◌, ◌-◌, ◌^◌, ◌<◌, ◌≤◌, List, [], ◌∷◌, length, set, get_or, take, drop, ◌++◌, refl, sym, ap, subst, ◌∙◌, arith}
+use Rattle.std.proofs.Common.{◌≡◌, ℕ, Bool, true, false, zero, suc, ◌+◌, ◌-◌, ◌<◌, List, [], ◌∷◌, length, set, get_or, take, drop, ◌++◌, refl, sym, ap, subst, ◌∙◌, arith}
 use Rattle.std.proofs.lemmas.List.{get_or-map, set-get_or, drop_more}
 use Rattle.std.proofs.lemmas.Bool.{leb-true}
-use Rattle.std.proofs.Math.Nat.{pow-le-pow_right}
 use Rattle.std.proofs.Math.Numerals.{add-one}
 use Rattle.hpte_fields.specs.TableSize.{IsTableOrder, entry_count, greatest_order, least_order}
 use Rattle.hpte_fields.proofs.TableSizes.{entries_few}
-use Rattle.entry_model.specs.State.{State, empty_state}
-use Rattle.entry_model.specs.Receipt.{after_of}
+use Rattle.entry_model.specs.State.{State, empty_state, Follows}
+use Rattle.entry_model.specs.Receipt.{after_of, is_change}
 use Rattle.entry_model.specs.Run.{state_at, states_after}
 use Rattle.entry_model.specs.declared.receipt.Receipt.{Receipt}
 use Rattle.entry_model.proofs.Follows.{reply_follows}
-use Rattle.c_layout.specs.Entries.{Entry, states_of, entry_with, entries_with, ArePassed, AreMarked, IsLater}
+use Rattle.c_layout.specs.Entries.{Entry, states_of, entry_with, entries_with, ArePassed, AreMarked}
 use Rattle.c_layout.specs.Tables.{is_table}
 use Rattle.papr_c.specs.Transfers.{replaced}
-use Rattle.papr_c.specs.Tried.{is_change}
 use Rattle.papr_c.proofs.Changes.{raises}
 use Rattle.papr_c.proofs.Outcomes.{table_whole}
 use Rattle.c_layout.proofs.Marks.{states-length, states-set, passed_one, marked_none, no_entry, change_marked}
@@ -49,9 +47,9 @@ pub passed_by :
 passed_by es new r e s inside before after is =
     let was : (get_or es r.entry e).state ≡ r.before =
     sym (before ∙ get_or-map (λ (x : Entry). x.state) es r.entry e (empty_state 0) inside) in
-    let later : IsLater (get_or es r.entry e).state s =
-    subst (λ (t : State). IsLater t s) (sym was)
-    (subst (IsLater r.before) (sym after) (reply_follows r.before r.op)) in
+    let later : Follows (get_or es r.entry e).state s =
+    subst (λ (t : State). Follows t s) (sym was)
+    (subst (Follows r.before) (sym after) (reply_follows r.before r.op)) in
     subst (ArePassed es) (sym is)
     (passed_one es r.entry e (entry_with (get_or es r.entry e) s) inside
     (record { marked = refl; later = later }))

@@ -1,5 +1,5 @@
 -- What a call leaves, by its reply and the receipts that it made.
-use Rattle.std.specs.Prelude.{◌==◌, ◌&&◌, nat_le}
+use Rattle.std.specs.Prelude.{◌==◌, ◌&&◌}
 use Rattle.std.specs.List.{AllByRecursion}
 use Rattle.std.proofs.Common.{◌≡◌, ℕ, ◌<◌, min, List, [], ◌∷◌, Bool, true, false, length, map, Option, Some, refl, ap, sym, subst, arith, ◌∙◌}
 use Rattle.std.proofs.lemmas.Bool.{eqb-true}
@@ -22,7 +22,7 @@ use Rattle.c_layout.specs.declared.reply.PaprReply.{PaprReply}
 use Rattle.papr_codes.specs.ReturnCodes.{rc_code}
 use Rattle.papr_codes.specs.declared.codes.Rc.{Rc}
 use Rattle.c_layout.proofs.Filling.{filled-nil, placed_filled}
-use Rattle.c_layout.specs.Places.{filled, placed, shown_receipt}
+use Rattle.c_layout.specs.Slots.{filled, placed, shown_receipt}
 use Rattle.c_layout.specs.declared.walking.PaprAccess.{PaprAccess}
 use Rattle.c_layout.specs.declared.walking.PaprWalk.{PaprWalk}
 use Rattle.c_layout.specs.Tables.{is_table}
@@ -64,7 +64,7 @@ call_is fits plan m registers rs reply words receipts lent now after fit is run 
 pub walk_is :
     (order : ℕ) (a : PaprAccess) (page : VirtualPage) (want : Want) (m : WalkMemory)
     (cs : List Call) (found : Option Receipt) (count : ℕ) (told : PaprWalk)
-    (places : List PaprReceipt) (after : List State)
+    (slots : List PaprReceipt) (after : List State)
     → is_table order m.entries ≡ true
     → page_of a ≡ Some page
     → want_of a.want ≡ Some want
@@ -72,15 +72,15 @@ pub walk_is :
     → found ≡ found_of (trial_run is_no_match m.entries cs).0
     → count ≡ min (length m.receipts) (length (trial_run is_no_match m.entries cs).0)
     → told ≡ walk_end after_of a want found count
-    → places ≡ placed m.receipts 0 (map shown_receipt (trial_run is_no_match m.entries cs).0)
+    → slots ≡ placed m.receipts 0 (map shown_receipt (trial_run is_no_match m.entries cs).0)
     → after ≡ (trial_run is_no_match m.entries cs).1
-    → (told, walk_memory after places) ≡ outcome_of_walk order a m
-walk_is order a page want m cs found count told places after fit at_page wants calls is counted
+    → (told, walk_memory after slots) ≡ outcome_of_walk order a m
+walk_is order a page want m cs found count told slots after fit at_page wants calls is counted
     ended put kept =
     let x = trial_run is_no_match m.entries cs in
-    let in_places : places ≡ filled m.receipts (map shown_receipt x.0) = put ∙ placed_filled
+    let in_places : slots ≡ filled m.receipts (map shown_receipt x.0) = put ∙ placed_filled
     (map shown_receipt x.0) m.receipts in
-    let here : (told, walk_memory after places) ≡ walked_by a want m x = rw
+    let here : (told, walk_memory after slots) ≡ walked_by a want m x = rw
     (ended, is, counted, in_places, kept) refl in
     rw (fit, at_page, wants)
     (here

@@ -9,6 +9,7 @@ use Rattle.power_addr.proofs.Tags.{tag_of-parts, segment_code-le}
 use Rattle.hpte_fields.specs.Fields.{is_one_tb, segment_code, tag_field}
 use Rattle.hpt_hash.specs.Entries.{number_field}
 use Rattle.papr_c.specs.Decoding.{has_place}
+use Rattle.hpt_hash.proofs.PageLemmas.{one_tb-code}
 
 -- ---- the parts of a tag
 -- A tag field is B and the address bits.
@@ -39,10 +40,6 @@ parts_of_page p dword0 is range e =
     same_parts (segment_code_of p.one_tb) (segment_code dword0) (virtual_address p)
     (number_field dword0) (segment_code-le p.one_tb) (virtual_address-lt p is) (omega arith)
     (sym (tag_of-parts p is) ∙ e ∙ parts_of_field dword0 range)
-
-one_tb_of : (b : Bool) (dword0 : ℕ) → segment_code_of b ≡ segment_code dword0 → is_one_tb dword0 ≡ b
-one_tb_of false dword0 e = rw (← e) refl
-one_tb_of true dword0 e = rw (← e) refl
 
 code_of :
     (dword0 : ℕ)
@@ -80,7 +77,7 @@ place_of_page p dword0 base is range shift tag =
     let parts = parts_of_page p dword0 is range tag in
     let code : nat_le (segment_code dword0) 1 ≡ true = le-leb (segment_code dword0) 1
     (subst (λ c. c ≤ 1) parts.0 (segment_code-le p.one_tb)) in
-    let one_tb : is_one_tb dword0 ≡ p.one_tb = one_tb_of p.one_tb dword0 parts.0 in
+    let one_tb : is_one_tb dword0 ≡ p.one_tb = one_tb-code p.one_tb dword0 parts.0 in
     let fits : is_base_shift (is_one_tb dword0) base ≡ true = rw (one_tb, ← shift) is.shift in
     let clear : number_field dword0 % 2 ^ (base - 23) ≡ 0 = rw (← parts.1, ← shift)
     (clear_inside (offset_bits p.one_tb) p.shift p.vsid p.index

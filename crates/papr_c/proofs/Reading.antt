@@ -10,7 +10,7 @@ use Rattle.entry_model.specs.declared.operation.Op.TheVariants.{Read}
 use Rattle.entry_model.specs.declared.receipt.Receipt.{Receipt}
 use Rattle.entry_model.proofs.TrialSteps.{calls_from}
 use Rattle.call_plan.specs.Single.{both_words}
-use Rattle.c_layout.specs.Places.{placed}
+use Rattle.c_layout.specs.Slots.{placed}
 use Rattle.c_layout.specs.Stale.{any_stale}
 use Rattle.papr_c.specs.Tried.{words_of_entries}
 use Rattle.c_layout.proofs.Filling.{placed-append}

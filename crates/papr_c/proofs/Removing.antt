@@ -1,7 +1,7 @@
--- A bulk removal, one pair after the other, with its words and receipts in the caller's places.
+-- A bulk removal, one pair after the other, with its words and receipts in the caller's slots.
 use Rattle.std.specs.Prelude.{map, ◌||◌}
 use Rattle.std.proofs.Common.{◌≡◌, ℕ, zero, suc, ◌+◌, ◌-◌, ◌*◌, ◌<◌, ◌≤◌, List, [], ◌∷◌, ◌++◌, length, take, drop, set, get_or, min, Bool, true, false, arith, refl, sym, ap, ◌∙◌, length-set, length-drop}
-use Rattle.std.proofs.lemmas.List.{length-append, take_all}
+use Rattle.std.proofs.lemmas.List.{length-append, take_all, length_push}
 use Rattle.std.proofs.Math.Numerals.{add-one}
 use Rattle.papr_codes.specs.ReturnCodes.{rc_code}
 use Rattle.papr_codes.specs.declared.codes.Rc.{Rc}
@@ -16,7 +16,7 @@ use Rattle.entry_model.proofs.Runs.{run_more, run-length}
 use Rattle.call_plan.specs.Bulk.{Pair, asked_by, response, status_of}
 use Rattle.call_plan.specs.declared.bulk.Asked.TheVariants as asks
 use Rattle.call_plan.proofs.BulkSteps.{IsSoFar, asked_at, asked_in_table, goes_on, words_to_end}
-use Rattle.c_layout.specs.Places.{filled, placed, shown_receipt}
+use Rattle.c_layout.specs.Slots.{filled, placed, shown_receipt}
 use Rattle.c_layout.specs.Tables.{is_table}
 use Rattle.c_layout.specs.Stale.{is_stale, any_stale}
 use Rattle.c_layout.specs.declared.receipts.PaprReceipt.{PaprReceipt}
@@ -25,8 +25,9 @@ use Rattle.c_layout.proofs.Filling.{placed-append, placed_filled}
 use Rattle.papr_c.specs.Calls.{LentMemory, memory, outcome_where}
 use Rattle.papr_c.proofs.Outcomes.{call_is, table_whole}
 use Rattle.papr_c.proofs.SoFar.{put_next}
+use Rattle.std.proofs.Math.Bool.{or-false}
 
--- ---- places
+-- ---- slots
 -- One more item behind those that were put.
 pub put_more :
     {X : Type 0} (old now items : List X) (i : ℕ) (x : X)
@@ -109,27 +110,23 @@ or_assoc : (a b c : Bool) → (a || (b || c)) ≡ ((a || b) || c)
 or_assoc true b c = refl
 or_assoc false b c = refl
 
-or_none : (b : Bool) → (b || false) ≡ b
-or_none true = refl
-or_none false = refl
-
 pub stale_more :
     (rs : List Receipt) (r : Receipt)
     → (any_stale rs || is_stale r.answer) ≡ any_stale (rs ++ r ∷ [])
 unfolding any_stale
-stale_more [] r = sym (or_none (is_stale r.answer))
+stale_more [] r = sym (or-false (is_stale r.answer))
 stale_more (x ∷ rs) r =
     sym (or_assoc (is_stale x.answer) (any_stale rs) (is_stale r.answer))
     ∙ ap (λ b. is_stale x.answer || b) (stale_more rs r)
 
 -- ---- the pairs so far
 -- What they left, with the words and the receipts that they gave.
-pub record IsRemoving (order i : ℕ) (pairs : List ℕ) (a b : List State) (words places : List ℕ)
+pub record IsRemoving (order i : ℕ) (pairs : List ℕ) (a b : List State) (words slots : List ℕ)
     (old new : List PaprReceipt) (stale : Bool) (told : List ℕ) (rs : List Receipt) :
     Type 0 where
   pub run : IsRun a rs b
   pub so_far : IsSoFar order i pairs told rs
-  pub in_words : places ≡ placed words 0 told
+  pub in_words : slots ≡ placed words 0 told
   pub long : length told ≡ 2 * i
   pub put : new ≡ placed old 0 (map shown_receipt rs)
   pub tried : length rs ≡ i
@@ -168,16 +165,8 @@ run_one a b c rs entry test r run is inside after =
       refl,
     )
 
-pub length-more : (rs : List Receipt) (r : Receipt) → length (rs ++ r ∷ []) ≡ length rs + 1
-length-more [] r = refl
-length-more (x ∷ rs) r = omega (arith, length-more rs r)
-
-pub long-more : (ws : List ℕ) (w : ℕ) → length (ws ++ w ∷ []) ≡ length ws + 1
-long-more [] w = refl
-long-more (x ∷ ws) w = omega (arith, long-more ws w)
-
 pub removes_more :
-    (order i : ℕ) (pairs : List ℕ) (a b c : List State) (words places first second : List ℕ)
+    (order i : ℕ) (pairs : List ℕ) (a b c : List State) (words slots first second : List ℕ)
     (old new next : List PaprReceipt) (stale : Bool) (told : List ℕ) (rs : List Receipt)
     (entry : ℕ) (test : Test) (r : Receipt) (answer word : ℕ)
     → length pairs ≡ 8
@@ -189,19 +178,19 @@ pub removes_more :
     → answer ≡ response (status_of r.answer r.before) (get_or pairs (2 * i) 0)
     → word ≡ get_or pairs (2 * i + 1) 0
     → c ≡ states_after b r
-    → first ≡ set places (2 * i) answer
+    → first ≡ set slots (2 * i) answer
     → second ≡ set first (2 * i + 1) word
     → next ≡ set new i (shown_receipt r)
-    → IsRemoving order i pairs a b words places old new stale told rs
+    → IsRemoving order i pairs a b words slots old new stale told rs
     → IsRemoving order (i + 1) pairs a c words second old next (stale || is_stale r.answer)
     ((told ++ answer ∷ []) ++ word ∷ []) (rs ++ r ∷ [])
-removes_more order i pairs a b c words places first second old new next stale told rs entry test r
+removes_more order i pairs a b c words slots first second old new next stale told rs entry test r
     answer word eight h asked is inside goes answers wordly after put_answer put_word put_receipt
     so_far =
     let one : first ≡ placed words 0 (told ++ answer ∷ []) =
-    put_answer ∙ put_more words places told (2 * i) answer so_far.in_words so_far.long in
+    put_answer ∙ put_more words slots told (2 * i) answer so_far.in_words so_far.long in
     let long_one : length (told ++ answer ∷ []) ≡ 2 * i + 1 =
-    omega (arith, long-more told answer, so_far.long) in
+    omega (arith, length_push told answer, so_far.long) in
     let two : second ≡ placed words 0 ((told ++ answer ∷ []) ++ word ∷ []) =
     put_word ∙ put_more words first (told ++ answer ∷ []) (2 * i + 1) word one long_one in
     let of : IsReceiptOf entry (Remove test) r = record { entry = rw is refl; op = rw is refl } in
@@ -211,9 +200,9 @@ removes_more order i pairs a b c words places first second old new next stale to
           rw (answers, wordly)
           (goes_on order i pairs told rs entry test r eight h asked of goes so_far.so_far);
       in_words = two;
-      long = omega (arith, long-more (told ++ answer ∷ []) word, long_one);
+      long = omega (arith, length_push (told ++ answer ∷ []) word, long_one);
       put = put_receipt ∙ put_next old new i rs r so_far.put so_far.tried;
-      tried = omega (arith, length-more rs r, so_far.tried);
+      tried = omega (arith, length_push rs r, so_far.tried);
       told_stale = ap (λ b. b || is_stale r.answer) so_far.told_stale ∙ stale_more rs r;
     }
 
@@ -231,7 +220,7 @@ asked_inside order a b rs p entry test table run asked =
 -- ---- the end
 pub removal_ends :
     (fits : Bool) (plan : Plan) (m : LentMemory) (code : Rc) (pairs told : List ℕ)
-    (rs : List Receipt) (first tried : ℕ) (stale : Bool) (places words : List ℕ)
+    (rs : List Receipt) (first tried : ℕ) (stale : Bool) (slots words : List ℕ)
     (reply : PaprReply) (receipts : List PaprReceipt) (after : List State)
     → fits ≡ true
     → length pairs ≡ 8
@@ -239,26 +228,26 @@ pub removal_ends :
     → IsReplyOf plan
     (record { rc = code; words = told ++ take (8 - first) (drop first pairs); receipts = rs })
     → IsRun m.entries rs after
-    → places ≡ placed m.words 0 told
+    → slots ≡ placed m.words 0 told
     → length told ≡ first
-    → words ≡ placed places first (drop first pairs)
+    → words ≡ placed slots first (drop first pairs)
     → receipts ≡ placed m.receipts 0 (map shown_receipt rs)
     → length rs ≡ tried
     → stale ≡ any_stale rs
     → reply
     ≡ record {
       rc = rc_code code;
-      words = min (length places) 8;
+      words = min (length slots) 8;
       receipts = min (length m.receipts) tried;
       stale = stale;
     }
     → (reply, memory after words receipts) ≡ outcome_where fits plan m
-removal_ends fits plan m code pairs told rs first tried stale places words reply receipts after fit
+removal_ends fits plan m code pairs told rs first tried stale slots words reply receipts after fit
     eight few is run put long rest in_receipts many told_stale replied =
     let all = told ++ take (8 - first) (drop first pairs) in
     let ends : take (8 - first) (drop first pairs) ≡ drop first pairs =
     words_to_end first pairs eight in
-    let same : length places ≡ length m.words =
+    let same : length slots ≡ length m.words =
     ap length put ∙ length-placed told m.words 0 in
     let whole : 8 ≡ length all =
     omega (

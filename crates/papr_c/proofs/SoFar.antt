@@ -13,9 +13,10 @@ use Rattle.entry_model.proofs.TrialSteps.{ending-on, ending-off}
 use Rattle.entry_model.specs.Calls.{call_at}
 use Rattle.entry_model.proofs.BegunLaws.{at_end, at_inside}
 use Rattle.c_layout.specs.declared.receipts.PaprReceipt.{PaprReceipt}
-use Rattle.c_layout.specs.Places.{placed, shown_receipt}
+use Rattle.c_layout.specs.Slots.{placed, shown_receipt}
 use Rattle.papr_c.specs.Tried.{LentPair, IsMadeAt, IsTriedLast}
 use Rattle.c_layout.proofs.Filling.{placed-append}
+use Rattle.std.proofs.lemmas.List.{length_push}
 
 -- The rest of the calls begins with this one.
 pub drop_at :
@@ -87,10 +88,6 @@ length-map_shown : (rs : List Receipt) → length (map shown_receipt rs) ≡ len
 length-map_shown [] = refl
 length-map_shown (x ∷ rs) = ap suc (length-map_shown rs)
 
-length-more : (rs : List Receipt) (r : Receipt) → length (rs ++ r ∷ []) ≡ length rs + 1
-length-more [] r = refl
-length-more (x ∷ rs) r = omega (arith, length-more rs r)
-
 pub put_next :
     (old new : List PaprReceipt) (i : ℕ) (rs : List Receipt) (r : Receipt)
     → new ≡ placed old 0 (map shown_receipt rs)
@@ -144,7 +141,7 @@ so_far_goes goes cs i entry op a b c old new next rs r at is after put on h =
           ∙ h.on (r ∷ ss)
           ∙ ending-on goes r ss on;
       put = put ∙ put_next old new i rs r h.put h.tried;
-      tried = omega (arith, length-more rs r, h.tried);
+      tried = omega (arith, length_push rs r, h.tried);
       same = rw after (length-set b r.entry (after_of r) ∙ h.same);
       inside = omega (arith, at_inside cs i (entry, op) at);
     }
@@ -176,7 +173,7 @@ ends goes cs i entry op a b c old new next rs r at is after put off h =
     ∙ ap (before_rest rs)
     (ap (trial_run goes b) (drop_at cs i entry op at)
     ∙ step_off goes b (call op entry) (drop (suc i) cs) r is off) in
-    let many : length (rs ++ r ∷ []) ≡ i + 1 = omega (arith, length-more rs r, h.tried) in
+    let many : length (rs ++ r ∷ []) ≡ i + 1 = omega (arith, length_push rs r, h.tried) in
     record {
       entries = rw all after;
       receipts = rw all (put ∙ put_next old new i rs r h.put h.tried);
@@ -216,11 +213,11 @@ pub so_far_next :
     (goes : Answer → Bool) (cs : List Call) (i : ℕ) (a : List State) (old : List PaprReceipt)
     (m : LentPair)
     → ((r : Receipt) × IsMadeAt goes cs i m r true)
-    → ((rs : List Receipt) × IsSoFar goes cs i a m.before old m.places_before rs)
-    → (rs : List Receipt) × IsSoFar goes cs (i + 1) a m.after old m.places_after rs
+    → ((rs : List Receipt) × IsSoFar goes cs i a m.before old m.slots_before rs)
+    → (rs : List Receipt) × IsSoFar goes cs (i + 1) a m.after old m.slots_after rs
 so_far_next goes cs i a old m (r, made) (rs, h) = (
   rs ++ r ∷ [],
-  so_far_goes goes cs i made.entry made.op a m.before m.after old m.places_before m.places_after
+  so_far_goes goes cs i made.entry made.op a m.before m.after old m.slots_before m.slots_after
       rs r made.at made.receipt made.after made.put made.goes_on h,
 )
 
@@ -228,11 +225,11 @@ pub told_last :
     (goes : Answer → Bool) (cs : List Call) (i : ℕ) (a : List State) (old : List PaprReceipt)
     (m : LentPair) (last : Option Receipt) (count : ℕ)
     → IsTriedLast goes cs i m last count
-    → ((rs : List Receipt) × IsSoFar goes cs i a m.before old m.places_before rs)
-    → IsTold goes cs count a m.after old m.places_after last
+    → ((rs : List Receipt) × IsSoFar goes cs i a m.before old m.slots_before rs)
+    → IsTold goes cs count a m.after old m.slots_after last
 told_last goes cs i a old m None count (none, (after, (put, counted))) (rs, h) =
-    rw (after, put, counted) (past_all goes cs i a m.before old m.places_before rs none h)
+    rw (after, put, counted) (past_all goes cs i a m.before old m.slots_before rs none h)
 told_last goes cs i a old m (Some r) count (made, counted) (rs, h) =
     rw counted
-    (ends goes cs i made.entry made.op a m.before m.after old m.places_before m.places_after rs
+    (ends goes cs i made.entry made.op a m.before m.after old m.slots_before m.slots_after rs
     r made.at made.receipt made.after made.put made.goes_on h)

@@ -13,20 +13,17 @@ use Rattle.entry_model.specs.Trial.{Call, ending_of, receipt_at, trial_run}
 use Rattle.entry_model.proofs.TrialSteps.{ending-on, ending-off}
 use Rattle.c_layout.specs.Stale.{is_stale, any_stale}
 use Rattle.papr_c.proofs.SoFar.{step_on, step_off, no_more}
-
-or_none : (b : Bool) → (b || false) ≡ b
-or_none true = refl
-or_none false = refl
+use Rattle.std.proofs.Math.Bool.{or-false}
 
 -- ---- a trial of one call
 pub stale_alone : (r : Receipt) → is_stale r.answer ≡ any_stale (r ∷ [])
 unfolding any_stale
-stale_alone r = sym (or_none (is_stale r.answer))
+stale_alone r = sym (or-false (is_stale r.answer))
 
 -- ---- a trial of two calls
 pub stale_pair : (r s : Receipt) → (is_stale r.answer || is_stale s.answer) ≡ any_stale (r ∷ s ∷ [])
 unfolding any_stale
-stale_pair r s = ap (λ b. is_stale r.answer || b) (sym (or_none (is_stale s.answer)))
+stale_pair r s = ap (λ b. is_stale r.answer || b) (sym (or-false (is_stale s.answer)))
 
 -- ---- a trial that goes on while entries are taken
 -- By the receipt that ended it.

@@ -2,16 +2,18 @@
 use Rattle.std.specs.Prelude.{nat_lt}
 use Rattle.std.proofs.Common.{◌≡◌, ℕ, zero, suc, ◌+◌, ◌<◌, ◌≤◌, List, [], ◌∷◌, ◌++◌, length, take, drop, set, get_or, true, false, refl, sym, ap, ◌∙◌, ◌⊎◌, inl, inr, arith, append-nil}
 use Rattle.std.proofs.lemmas.Bool.{cases_lt, lt-ltb, le-ltb}
-use Rattle.std.proofs.lemmas.List.{set-get_or, drop_more, drop_all, take_all}
+use Rattle.std.proofs.lemmas.List.{set-get_or, drop_more, drop_all, take_all, length_push}
 use Rattle.c_layout.specs.Entries.{Entry}
-use Rattle.c_layout.specs.Places.{placed}
-use Rattle.papr_c.specs.Taking.{marked_from, behind, Found, found, without_mark, entries_without, places_after}
+use Rattle.c_layout.specs.Slots.{placed}
+use Rattle.papr_c.specs.Taking.{marked_from, behind, Found, found, without_mark, entries_without, slots_after}
 use Rattle.c_layout.proofs.Filling.{placed_filled}
 use Rattle.papr_c.proofs.Ranges.{between, between_none, between_read, between_next, between_parts}
 use Rattle.papr_c.proofs.Removing.{put_more}
 
 -- ---- so far
-pub record IsTaking (first index room : ℕ) (old now : List Entry) (places new : List ℕ)
+-- The entries from the first index up to this one were asked: those that were marked are marked no
+-- more, and their indexes, no more than there is room for, were written from the front on.
+pub record IsTaking (first index room : ℕ) (old now : List Entry) (slots new : List ℕ)
     (count : ℕ) (told : List ℕ) :
     Type 0 where
   pub low : first ≤ index
@@ -19,17 +21,17 @@ pub record IsTaking (first index room : ℕ) (old now : List Entry) (places new 
   pub whole :
       marked_from first (drop first old) ≡ told ++ marked_from index (drop index old)
   pub entries : now ≡ between without_mark first index old
-  pub put : new ≡ placed places 0 told
+  pub put : new ≡ placed slots 0 told
   pub counted : length told ≡ count
   pub few : count ≤ room
   pub less : count + first ≤ index
   pub full : count ≡ room → behind first told ≡ index
 
 pub taking_starts :
-    (first room : ℕ) (old : List Entry) (places : List ℕ)
+    (first room : ℕ) (old : List Entry) (slots : List ℕ)
     → first ≤ length old
-    → IsTaking first first room old old places places 0 []
-taking_starts first room old places inside = record {
+    → IsTaking first first room old old slots slots 0 []
+taking_starts first room old slots inside = record {
   low = omega arith;
   high = inside;
   whole = refl;
@@ -43,12 +45,12 @@ taking_starts first room old places inside = record {
 
 -- What is read of the next entry is what stood there.
 pub taking_reads :
-    (first index room : ℕ) (old now : List Entry) (places new : List ℕ) (count : ℕ)
+    (first index room : ℕ) (old now : List Entry) (slots new : List ℕ) (count : ℕ)
     (told : List ℕ) (d : Entry)
     → index < length old
-    → IsTaking first index room old now places new count told
+    → IsTaking first index room old now slots new count told
     → get_or now index d ≡ get_or old index d
-taking_reads first index room old now places new count told d below h =
+taking_reads first index room old now slots new count told d below h =
     ap (λ es. get_or es index d) h.entries
     ∙ between_read without_mark first index old d h.low below
 
@@ -75,7 +77,7 @@ pub from_other :
 from_other index e es is = rw is refl
 
 pub taking_passes :
-    (first index room : ℕ) (old now next : List Entry) (places new filled_on : List ℕ)
+    (first index room : ℕ) (old now next : List Entry) (slots new filled_on : List ℕ)
     (count count_on : ℕ) (told : List ℕ) (d : Entry)
     → index < length old
     → (get_or old index d).marked ≡ false
@@ -83,16 +85,16 @@ pub taking_passes :
     → next ≡ now
     → filled_on ≡ new
     → count_on ≡ count
-    → IsTaking first index room old now places new count told
-    → IsTaking first (index + 1) room old next places filled_on count_on told
-taking_passes first index room old now next places new filled_on count count_on told d below none
+    → IsTaking first index room old now slots new count told
+    → IsTaking first (index + 1) room old next slots filled_on count_on told
+taking_passes first index room old now next slots new filled_on count count_on told d below none
     room_left same same_places same_count h =
     let e = get_or old index d in
     let kept : between without_mark first index old ≡ between without_mark first (index + 1) old =
     sym
     (ap (set (between without_mark first index old) index)
     (unmarked_is e none
-    ∙ sym (taking_reads first index room old now places new count told d below h)
+    ∙ sym (taking_reads first index room old now slots new count told d below h)
     ∙ ap (λ es. get_or es index d) h.entries)
     ∙ set-get_or (between without_mark first index old) index d)
     ∙ between_next without_mark first index old d h.low below in
@@ -115,16 +117,12 @@ behind-more : (first i : ℕ) (is : List ℕ) → behind first (is ++ i ∷ []) 
 behind-more first i [] = refl
 behind-more first i (j ∷ is) = behind-more (j + 1) i is
 
-long-more : (is : List ℕ) (i : ℕ) → length (is ++ i ∷ []) ≡ length is + 1
-long-more [] i = refl
-long-more (j ∷ is) i = omega (arith, long-more is i)
-
 append_one : (is js : List ℕ) (i : ℕ) → is ++ (i ∷ js) ≡ (is ++ i ∷ []) ++ js
 append_one [] js i = refl
 append_one (j ∷ is) js i = ap (λ xs. j ∷ xs) (append_one is js i)
 
 pub taking_takes :
-    (first index room : ℕ) (old now next : List Entry) (places new filled_on : List ℕ)
+    (first index room : ℕ) (old now next : List Entry) (slots new filled_on : List ℕ)
     (count count_on : ℕ) (told : List ℕ) (d e : Entry)
     → index < length old
     → (get_or old index d).marked ≡ true
@@ -133,10 +131,10 @@ pub taking_takes :
     → next ≡ set now index e
     → filled_on ≡ set new count index
     → count_on ≡ count + 1
-    → IsTaking first index room old now places new count told
-    → IsTaking first (index + 1) room old next places filled_on count_on
+    → IsTaking first index room old now slots new count told
+    → IsTaking first (index + 1) room old next slots filled_on count_on
     (told ++ index ∷ [])
-taking_takes first index room old now next places new filled_on count count_on told d e below is
+taking_takes first index room old now next slots new filled_on count count_on told d e below is
     room_left without after put counted h =
     let at = get_or old index d in
     record {
@@ -151,8 +149,8 @@ taking_takes first index room old now next places new filled_on count count_on t
           after
           ∙ (λ k. set (h.entries k) index (without k))
           ∙ between_next without_mark first index old d h.low below;
-      put = put ∙ put_more places new told count index h.put h.counted;
-      counted = omega (arith, long-more told index, h.counted, counted);
+      put = put ∙ put_more slots new told count index h.put h.counted;
+      counted = omega (arith, length_push told index, h.counted, counted);
       few = omega (arith, room_left, counted);
       less = omega (arith, h.less, counted);
       full = λ all. behind-more first index told;
@@ -169,30 +167,30 @@ take_first (i ∷ is) js (suc n) long =
 
 -- Both clauses that name it.
 pub places_are :
-    (old : List Entry) (first room : ℕ) (places new : List ℕ) (f : Found)
+    (old : List Entry) (first room : ℕ) (slots new : List ℕ) (f : Found)
     → found old first room ≡ f
-    → new ≡ placed places 0 f.indexes
-    → new ≡ places_after (found old first room) places
-places_are old first room places new f is put =
+    → new ≡ placed slots 0 f.indexes
+    → new ≡ slots_after (found old first room) slots
+places_are old first room slots new f is put =
     put
-    ∙ placed_filled f.indexes places
-    ∙ ap (λ (g : Found). places_after g places) (sym is)
+    ∙ placed_filled f.indexes slots
+    ∙ ap (λ (g : Found). slots_after g slots) (sym is)
 
 -- What was found, where it ended here.
 pub found_is :
-    (first index room : ℕ) (old now : List Entry) (places new : List ℕ) (count : ℕ)
+    (first index room : ℕ) (old now : List Entry) (slots new : List ℕ) (count : ℕ)
     (told : List ℕ)
     → (count ≡ room) ⊎ (length old ≤ index)
-    → IsTaking first index room old now places new count told
+    → IsTaking first index room old now slots new count told
     → found old first room ≡ record { indexes = told; next = index }
-found_is first index room old now places new count told (inl all) h =
+found_is first index room old now slots new count told (inl all) h =
     let indexes : take room (marked_from first (drop first old)) ≡ told =
     ap (take room) h.whole
     ∙ take_first told (marked_from index (drop index old)) room (omega (arith, h.counted, all)) in
     let not_less : nat_lt (length told) room ≡ false =
     le-ltb (length told) room (omega (arith, h.counted, all)) in
     rw (indexes, not_less) (λ k. record { indexes = told; next = h.full all k })
-found_is first index room old now places new count told (inr end) h =
+found_is first index room old now slots new count told (inr end) h =
     let none : drop index old ≡ [] = drop_all index old end in
     let all_told : marked_from first (drop first old) ≡ told =
     h.whole ∙ ap (λ es. told ++ marked_from index es) none ∙ append-nil told in
@@ -214,9 +212,9 @@ found_is first index room old now places new count told (inr end) h =
           rw (indexes, not_less) (λ k. record { indexes = told; next = same k })
 
 pub entries_are :
-    (first index room : ℕ) (old now : List Entry) (places new : List ℕ) (count : ℕ)
+    (first index room : ℕ) (old now : List Entry) (slots new : List ℕ) (count : ℕ)
     (told : List ℕ)
-    → IsTaking first index room old now places new count told
+    → IsTaking first index room old now slots new count told
     → now ≡ entries_without first (record { indexes = told; next = index }) old
-entries_are first index room old now places new count told h =
+entries_are first index room old now slots new count told h =
     h.entries ∙ between_parts without_mark first index old

@@ -200,6 +200,8 @@ left_none (o ∷ old) i (suc first) n low none =
     ∙ left_none old (i + 1) first n (omega (arith, low)) rest)
 
 -- ---- one call
+-- After one call the indexes that it found, and those still marked from the next index on, are all
+-- that were marked from the first index on.
 pub record IsAsked (first : ℕ) (old : List Entry) (f : Found) (new : List Entry) : Type 0 where
   pub high : f.next ≤ length new
   pub long : length new ≡ length old
@@ -240,6 +242,8 @@ asked first room old low =
     (subst (IsAsked first old f) (sym after) one)
 
 -- ---- until the end
+-- After several calls the indexes that they found, and those still marked from the next index on,
+-- are all that were marked from the first index on; no entry before the next one is marked.
 pub record IsAskedOn (first : ℕ) (old : List Entry) (t : Told) : Type 0 where
   pub long : length t.entries ≡ length old
   pub told :

@@ -1,4 +1,4 @@
--- What a hypervisor call of C leaves: its reply, the entries, and the places for words and
+-- What a hypervisor call of C leaves: its reply, the entries, and the slots for words and
 -- receipts.
 use Rattle.std.specs.Prelude.{ℕ, ◌==◌, ◌&&◌, Bool, if◌then◌else◌, List, length, map}
 use Rattle.entry_model.specs.State.{State}
@@ -8,9 +8,9 @@ use Rattle.c_layout.specs.declared.receipts.PaprReceipt.{PaprReceipt}
 use Rattle.c_layout.specs.declared.reply.PaprReply.{PaprReply}
 use Rattle.c_layout.specs.Tables.{is_table}
 use Rattle.c_layout.specs.Replies.{refused_reply, reply_told}
-use Rattle.c_layout.specs.Places.{filled, shown_receipt}
+use Rattle.c_layout.specs.Slots.{filled, shown_receipt}
 
--- The memory that a call may change: the entries, and the places for words and for receipts.
+-- The memory that a call may change: the entries, and the slots for words and for receipts.
 pub record LentMemory : Type 0 where
   pub entries : List State
   pub words : List ℕ
@@ -21,7 +21,7 @@ abbrev pub memory : List State → List ℕ → List PaprReceipt → LentMemory
 memory entries words receipts = record { entries = entries; words = words; receipts = receipts }
 
 -- ---- outcomes
--- The memory with these entries, and with the words and the receipts of the reply in the places, as
+-- The memory with these entries, and with the words and the receipts of the reply in the slots, as
 -- far as they go.
 abbrev pub memory_with : LentMemory → HReply → List State → LentMemory
 memory_with m reply entries =

@@ -18,7 +18,7 @@ abbrev pub outcome_by_plan : ℕ → LentMemory → Option Plan → PaprReply ×
 outcome_by_plan order m None = (function_reply, m)
 outcome_by_plan order m (Some plan) = outcome_of_call order plan m
 
--- The call with this number, whose words are the places for those that it gives.
+-- The call with this number, whose words are the slots for those that it gives.
 abbrev pub outcome_of_hcall : ℕ → List Grant → ℕ → LentMemory → PaprReply × LentMemory
 outcome_of_hcall order grants number m =
     outcome_by_plan order m (plan_of_hcall order grants m.words (hcall_of number))

@@ -3,7 +3,7 @@ use Rattle.std.specs.Prelude.{◌≡◌, ℕ, ◌+◌, ◌-◌, ◌&&◌, Bool, 
 use Rattle.papr_codes.specs.ReturnCodes.{rc_code}
 use Rattle.papr_codes.specs.declared.codes.Rc.TheVariants.{Success, Parameter}
 use Rattle.c_layout.specs.Entries.{Entry, states_of}
-use Rattle.c_layout.specs.Places.{filled}
+use Rattle.c_layout.specs.Slots.{filled}
 use Rattle.c_layout.specs.Tables.{is_table}
 use Rattle.papr_c.specs.declared.taking.PaprTaken.{PaprTaken}
 
@@ -24,7 +24,7 @@ pub record Found : Type 0 where
   pub indexes : List ℕ
   pub next : ℕ
 
--- From the first index on, as many as there are places. Where there are more places all entries
+-- From the first index on, as many as there are slots. Where there are more slots all entries
 -- were asked; else those up to the last one that is told.
 abbrev pub found : List Entry → ℕ → ℕ → Found
 found entries first room =
@@ -47,9 +47,9 @@ entries_without first f entries =
     let asked = f.next - first in
     take first entries ++ (take asked (map without_mark rest) ++ drop asked rest)
 
--- The first places have the indexes.
-abbrev pub places_after : Found → List ℕ → List ℕ
-places_after f places = filled places f.indexes
+-- The first slots have the indexes.
+abbrev pub slots_after : Found → List ℕ → List ℕ
+slots_after f slots = filled slots f.indexes
 
 -- ---- the call
 -- H_SUCCESS, how many indexes are told, and the next one.
@@ -67,11 +67,11 @@ can_take order entries first =
 
 -- What is told; where it can't be taken nothing changes.
 abbrev pub outcome_of_taking : ℕ → List Entry → ℕ → List ℕ → PaprTaken × List ℕ
-outcome_of_taking order entries first places =
-    let f = found entries first (length places) in
+outcome_of_taking order entries first slots =
+    let f = found entries first (length slots) in
     if can_take order entries first
-    then (marks_told (length f.indexes) f.next, places_after f places)
-    else (refused_taking, places)
+    then (marks_told (length f.indexes) f.next, slots_after f slots)
+    else (refused_taking, slots)
 
 -- The entries then.
 abbrev pub entries_after_taking : ℕ → List Entry → ℕ → ℕ → List Entry
@@ -81,13 +81,14 @@ entries_after_taking order entries first room =
     else entries
 
 -- ---- asked until the end
--- What was told by calls one behind the other with these numbers of places, with nothing else
+-- What was told by calls one behind the other with these numbers of slots, with nothing else
 -- between, and what they left.
 pub record Told : Type 0 where
   pub indexes : List ℕ
   pub next : ℕ
   pub entries : List Entry
 
+-- The marks that calls from this index on take, one behind the other, each with its room.
 abbrev pub asked_on : ℕ → List Entry → List ℕ → Told
 asked_on first entries [] = record { indexes = []; next = first; entries = entries }
 asked_on first entries (room ∷ rooms) =

@@ -18,7 +18,7 @@ use Rattle.papr_c.specs.declared.transfer.Refusal.{Refusal}
 use Rattle.papr_c.specs.declared.transfer.Refusal.TheVariants.{Arguments, Unheld, Unentered}
 use Rattle.papr_c.specs.declared.transfer.PaprTransfer.{PaprTransfer}
 use Rattle.c_layout.specs.Tables.{is_table}
-use Rattle.c_layout.specs.Places.{filled}
+use Rattle.c_layout.specs.Slots.{filled}
 
 -- ---- arguments
 -- The layout of a number.
@@ -67,7 +67,7 @@ abbrev pub first_unheld : Layout → List State → ℕ → ℕ → Option ℕ
 first_unheld layout entries first number =
     find (λ e. is_unheld layout (state_at entries e)) (range_with_len first number)
 
--- The bytes, in the first places there are, or an entry that the layout can't hold, and nothing
+-- The bytes, in the first slots there are, or an entry that the layout can't hold, and nothing
 -- changes.
 abbrev pub exported_unless :
     Option ℕ → Layout → List State → ℕ → ℕ → List ℕ → PaprTransfer × List ℕ

@@ -1,4 +1,4 @@
--- What a walk of C leaves: what it found, the entries, and the places for receipts.
+-- What a walk of C leaves: what it found, the entries, and the slots for receipts.
 use Rattle.std.specs.Prelude.{◌≡◌, ℕ, if◌then◌else◌, List, length, map, min, Option, Some}
 use Rattle.storage_prot.specs.declared.want.Want.{Want}
 use Rattle.power_addr.specs.Pages.{VirtualPage}
@@ -12,11 +12,11 @@ use Rattle.c_layout.specs.declared.receipts.PaprReceipt.{PaprReceipt}
 use Rattle.c_layout.specs.declared.walking.PaprAccess.{PaprAccess}
 use Rattle.c_layout.specs.declared.walking.PaprWalk.{PaprWalk}
 use Rattle.c_layout.specs.Tables.{is_table}
-use Rattle.c_layout.specs.Places.{filled, shown_receipt}
+use Rattle.c_layout.specs.Slots.{filled, shown_receipt}
 use Rattle.c_layout.specs.Accesses.{want_of, page_of}
 use Rattle.c_layout.specs.WalkEnds.{mode_of, refused_walk, walk_end}
 
--- The memory that a walk may change: the entries, and the places for receipts.
+-- The memory that a walk may change: the entries, and the slots for receipts.
 pub record WalkMemory : Type 0 where
   pub entries : List State
   pub receipts : List PaprReceipt

@@ -16,7 +16,7 @@ use Rattle.c_layout.specs.declared.receipts.PaprReceipt.{PaprReceipt}
 use Rattle.c_layout.specs.declared.reply.PaprReply.{PaprReply}
 use Rattle.papr_c.specs.declared.windows.PaprDevice.{PaprDevice}
 use Rattle.papr_c.specs.Calls.{LentMemory, outcome_where}
-use Rattle.c_layout.specs.Places.{filled, shown_receipt}
+use Rattle.c_layout.specs.Slots.{filled, shown_receipt}
 
 -- The window of so many entries, from this bus address on. Its number is its caller's own.
 abbrev pub window_of : ℕ → List State → BusWindow
@@ -54,12 +54,12 @@ device_receipts entries (Some e) = receipt_of e (state_at entries e) Read ∷ []
 -- By that receipt.
 abbrev pub device_by :
     List Grant → ℕ → Bool → List PaprReceipt → List Receipt → PaprDevice × List PaprReceipt
-device_by grants ioba write places rs = (
-  device_told (outcome_of grants ioba write rs) (min (length places) (length rs)),
-  filled places (map shown_receipt rs),
+device_by grants ioba write slots rs = (
+  device_told (outcome_of grants ioba write rs) (min (length slots) (length rs)),
+  filled slots (map shown_receipt rs),
 )
 
--- A device's read or write at a bus address, and the places for its receipt.
+-- A device's read or write at a bus address, and the slots for its receipt.
 abbrev pub outcome_of_device :
     ℕ
     → List State
@@ -68,13 +68,13 @@ abbrev pub outcome_of_device :
     → Bool
     → List PaprReceipt
     → PaprDevice × List PaprReceipt
-outcome_of_device base entries grants ioba write places =
+outcome_of_device base entries grants ioba write slots =
     if is_window (window_of base entries)
     then
     device_by
     grants
     ioba
     write
-    places
+    slots
     (device_receipts entries (entry_at (window_of base entries) ioba))
-    else (refused_device, places)
+    else (refused_device, slots)

@@ -2,7 +2,7 @@ ghost use Rattle.std.specs.Prelude.{◌≡◌, ◌+◌, ◌*◌, ◌≤◌, ◌+
 ghost use Rattle.byteorder.specs.Endian.{big_bytes};
 ghost use Rattle.table_image.specs.Layouts.{laid_out};
 ghost use Rattle.entry_model.specs.Reply.{words_of};
-ghost use Rattle.c_layout.specs.Places.{filled};
+ghost use Rattle.c_layout.specs.Slots.{filled};
 ghost use Rattle.papr_c.specs.Transfers.{bytes_of_entries, outcome_of_export};
 ghost use Rattle.c_layout.specs.Entries.{states_of};
 
@@ -54,7 +54,7 @@ fn first_unheld(layout: Layout, entries: &[PaprEntry], first: usize, number: usi
     None
 }
 
-/// Puts two doublewords into the first places.
+/// Puts two doublewords into the first slots.
 fn put_words(out: &mut [u8], dword0: u64, dword1: u64)
     requires { 16 ≤ length out.old }
     ensures { out.new ≡ (big_bytes 8 dword0 ++ big_bytes 8 dword1) ++ drop 16 out.old }
@@ -63,7 +63,7 @@ fn put_words(out: &mut [u8], dword0: u64, dword1: u64)
     BigEndian::write_u64(&mut out[8..], dword1);
 }
 
-/// Puts the bytes of so many entries, each of which the layout holds, into the first places.
+/// Puts the bytes of so many entries, each of which the layout holds, into the first slots.
 fn put_bytes(layout: Layout, entries: &[PaprEntry], first: usize, number: usize, out: &mut [u8])
     requires in_table { first + number ≤ length (states_of entries.now) }
     requires room { 16 * number ≤ length out.old }

@@ -47,6 +47,6 @@ pub extern "C" fn papr_hcall(
         Hcall::ClearRef => papr_h_clear_ref(entries, order, first, second, args, receipts),
         Hcall::ClearMod => papr_h_clear_mod(entries, order, first, second, args, receipts),
         Hcall::BulkRemove => papr_h_bulk_remove(entries, order, &asked, args, receipts),
-        _ => PaprReply::told(Rc::Function, 0, 0, false),
+        _ => PaprReply::answered(Rc::Function, 0, 0, false),
     }
 }

@@ -1,7 +1,7 @@
 ghost use Rattle.std.specs.Prelude.{◌≡◌, ◌≤◌, ◌+◌, ◌*◌, ◌^◌, ◌<◌, length, min};
 ghost use Rattle.call_plan.specs.Single.{h_read_plan};
 ghost use Rattle.papr_c.specs.Calls.{memory, outcome_of_call};
-ghost use Rattle.c_layout.specs.Places.{placed};
+ghost use Rattle.c_layout.specs.Slots.{placed};
 ghost use Rattle.papr_c.specs.Tried.{words_of_entries};
 ghost use Rattle.c_layout.specs.Entries.{states_of, AreMarked};
 
@@ -10,22 +10,22 @@ use c_layout::{PaprEntry, PaprReceipt, PaprReply, filled_count, is_table, put_wo
 use call_plan::read_plan;
 use hpt_resize::StateHolder;
 
-/// Puts both doublewords of each of these entries into the caller's places, as far as these go, and
+/// Puts both doublewords of each of these entries into the caller's slots, as far as these go, and
 /// gives how many it put.
-pub fn put_entries(entries: &[PaprEntry], first: u32, count: u32, places: &mut [u64]) -> u32
+pub fn put_entries(entries: &[PaprEntry], first: u32, count: u32, slots: &mut [u64]) -> u32
     requires few { count ≤ 4 }
     requires in_table { first + count ≤ length (states_of entries.now) }
     requires small { first + count < 2 ^ 32 }
-    ensures put { places.new
-        ≡ placed places.old 0 (words_of_entries (states_of entries.now) first count) }
-    ensures count { result ≡ min (length places.old) (2 * count) }
+    ensures put { slots.new
+        ≡ placed slots.old 0 (words_of_entries (states_of entries.now) first count) }
+    ensures count { result ≡ min (length slots.old) (2 * count) }
 {
     for i in 0..count {
         let (dword0, dword1) = entries[(first + i) as usize].state().words();
-        put_word(dword0, places, 2 * i as usize);
-        put_word(dword1, places, 2 * i as usize + 1);
+        put_word(dword0, slots, 2 * i as usize);
+        put_word(dword1, slots, 2 * i as usize + 1);
     }
-    filled_count(places.len(), 2 * count)
+    filled_count(slots.len(), 2 * count)
 }
 
 /// H_READ (LoPAR): the words are the two doublewords of the entry `ptex`, or under H_READ_4 those

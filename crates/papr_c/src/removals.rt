@@ -1,6 +1,6 @@
 ghost use Rattle.std.specs.Prelude.{◌≡◌, ◌≤◌, true, length, min, drop};
 ghost use Rattle.papr_codes.specs.ReturnCodes.{rc_code};
-ghost use Rattle.c_layout.specs.Places.{placed};
+ghost use Rattle.c_layout.specs.Slots.{placed};
 ghost use Rattle.c_layout.specs.Tables.{is_table};
 ghost use Rattle.call_plan.specs.Bulk.{h_bulk_remove_plan};
 ghost use Rattle.papr_c.specs.Calls.{memory, outcome_of_call};
@@ -12,7 +12,7 @@ use call_plan::{Asked, answered, asked_by, ill_formed};
 use entry_model::{Answer, Op};
 use papr_codes::Rc;
 
-/// Puts the words from one on into the caller's places, as far as these go: those of the pairs that
+/// Puts the words from one on into the caller's slots, as far as these go: those of the pairs that
 /// weren't taken up.
 fn put_rest(pairs: &[u64; 8], first: usize, words: &mut [u64])
     requires { first ≤ 8 }
@@ -46,11 +46,11 @@ fn ended(
 {
     let filled = filled_count(words.len(), 8);
     put_rest(pairs, first, words);
-    PaprReply::told(rc, filled, filled_count(room, tried), stale)
+    PaprReply::answered(rc, filled, filled_count(room, tried), stale)
 }
 
 /// Removes the entries that pairs of words ask for, one after the other. Words and receipts are put
-/// straight into the caller's places.
+/// straight into the caller's slots.
 pub fn remove_pairs(
     entries: &mut [PaprEntry],
     order: u8,

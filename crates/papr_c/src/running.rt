@@ -51,7 +51,7 @@ fn try_trial(
         Told::Contents => {
             let tried = try_lent(entries, trial, receipts);
             let shown = put_entries(entries, trial.first, trial.count, words);
-            PaprReply::told(Rc::Success, shown, filled_count(room, tried.count), false)
+            PaprReply::answered(Rc::Success, shown, filled_count(room, tried.count), false)
         }
     }
 }
@@ -75,7 +75,7 @@ pub fn run_lent(
     ensures marks { AreMarked entries.old entries.new }
 {
     match plan {
-        CallPlan::Code { rc } => PaprReply::told(*rc, 0, 0, false),
+        CallPlan::Code { rc } => PaprReply::answered(*rc, 0, 0, false),
         CallPlan::Tries { trial } => try_trial(entries, order, trial, words, receipts),
         CallPlan::Removes { order: _, pairs } => {
             remove_pairs(entries, order, pairs, words, receipts)

@@ -1,5 +1,5 @@
 ghost use Rattle.std.specs.Prelude.{◌≡◌, ◌≤◌, ◌<◌, ◌^◌, length};
-ghost use Rattle.papr_c.specs.Taking.{refused_taking, marks_told, places_after, entries_without, outcome_of_taking, entries_after_taking};
+ghost use Rattle.papr_c.specs.Taking.{refused_taking, marks_told, slots_after, entries_without, outcome_of_taking, entries_after_taking};
 
 use c_layout::{PaprEntry, is_table};
 use hpt_resize::StateHolder;
@@ -18,7 +18,7 @@ pub struct PaprTaken {
 }
 
 impl PaprTaken {
-    fn told(count: usize, next: usize) -> PaprTaken
+    fn ended_at(count: usize, next: usize) -> PaprTaken
         requires few { count < 2 ^ 32 }
         requires small { next < 2 ^ 32 }
         ensures { result ≡ marks_told count next }
@@ -41,7 +41,7 @@ impl PaprTaken {
     }
 }
 
-/// Takes marks from an index on, as far as there are places for their indexes.
+/// Takes marks from an index on, as far as there are slots for their indexes.
 fn take_marks(entries: &mut [PaprEntry], first: usize, indexes: &mut [u32]) -> PaprTaken
     requires inside { first ≤ length entries.old }
     requires few { length entries.old < 2 ^ 32 }
@@ -50,7 +50,7 @@ fn take_marks(entries: &mut [PaprEntry], first: usize, indexes: &mut [u32]) -> P
         result ≡ marks_told (length found.indexes) found.next }
     ensures indexes { let found =
         Rattle.papr_c.specs.Taking.found entries.old first (length indexes.old) in
-        indexes.new ≡ places_after found indexes.old }
+        indexes.new ≡ slots_after found indexes.old }
     ensures entries { let found =
         Rattle.papr_c.specs.Taking.found entries.old first (length indexes.old) in
         entries.new ≡ entries_without first found entries.old }
@@ -58,7 +58,7 @@ fn take_marks(entries: &mut [PaprEntry], first: usize, indexes: &mut [u32]) -> P
     let mut count = 0;
     for index in first..entries.len() {
         if count == indexes.len() {
-            return PaprTaken::told(count, index);
+            return PaprTaken::ended_at(count, index);
         }
         let entry = entries[index];
         if entry.marked {
@@ -67,11 +67,11 @@ fn take_marks(entries: &mut [PaprEntry], first: usize, indexes: &mut [u32]) -> P
             count += 1;
         }
     }
-    PaprTaken::told(count, entries.len())
+    PaprTaken::ended_at(count, entries.len())
 }
 
 /// Writes the indexes of the entries that were changed since their marks were last taken, in
-/// ascending order from the index `first` on, until there is no place more or the table ends, and
+/// ascending order from the index `first` on, until there is no slot more or the table ends, and
 /// takes these marks. Nothing else of the entries changes. H_PARAMETER, and nothing changes, where
 /// the entries aren't a table of `2^order` bytes or `first` is above their number.
 #[unsafe(no_mangle)]

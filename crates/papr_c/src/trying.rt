@@ -4,7 +4,7 @@ ghost use Rattle.entry_model.specs.Receipt.{after_of, receipt_of};
 ghost use Rattle.entry_model.specs.Run.{state_at, states_after};
 ghost use Rattle.entry_model.specs.Trial.{Call, ending_of, trial_run};
 ghost use Rattle.c_layout.specs.Entries.{states_of, ArePassed};
-ghost use Rattle.c_layout.specs.Places.{placed, shown_receipt};
+ghost use Rattle.c_layout.specs.Slots.{placed, shown_receipt};
 ghost use Rattle.papr_c.specs.Tried.{IsTriedNext};
 
 use c_layout::{PaprEntry, PaprReceipt, put_receipt};
@@ -18,17 +18,6 @@ pub struct Tried {
     pub ending: Option<Receipt>,
     /// How many calls were made.
     pub count: u32,
-}
-
-/// Whether the entry was changed, other than by an access.
-#[inline(always)]
-fn is_change(answer: Answer) -> bool
-    ensures { result ≡ Rattle.papr_c.specs.Tried.is_change answer }
-{
-    matches!(
-        answer,
-        Answer::Entered | Answer::Removed | Answer::Protected | Answer::Was
-    )
 }
 
 /// Whether an access was allowed.
@@ -50,7 +39,7 @@ fn store(entries: &mut [PaprEntry], receipt: &Receipt, after: &EntryState)
     ensures entries { states_of entries.new ≡ states_after (states_of entries.old) receipt.now }
     ensures passed { ArePassed entries.old entries.new }
 {
-    if is_change(receipt.answer) {
+    if receipt.answer.is_change() {
         entries[receipt.entry as usize] = PaprEntry::of(after, true);
     } else if is_at(receipt.answer) {
         entries[receipt.entry as usize].hold(after);
@@ -73,7 +62,7 @@ pub fn asked(entry: u32, before: EntryState, op: &Op) -> (Receipt, EntryState)
     (receipt, after)
 }
 
-/// Makes an operation on an entry, and puts the receipt into the caller's place, where there is
+/// Makes an operation on an entry, and puts the receipt into the caller's slot, where there is
 /// one.
 #[inline(always)]
 pub fn make(
@@ -81,23 +70,23 @@ pub fn make(
     op: &Op,
     entry: u32,
     receipts: &mut [PaprReceipt],
-    place: u32,
+    index: u32,
 ) -> Receipt
     requires { entry < length (states_of entries.old) }
     ensures receipt { result ≡ receipt_of entry (state_at (states_of entries.old) entry) op.now }
     ensures entries { states_of entries.new ≡ states_after (states_of entries.old) result }
     ensures passed { ArePassed entries.old entries.new }
-    ensures receipts { receipts.new ≡ set receipts.old place (shown_receipt result) }
+    ensures receipts { receipts.new ≡ set receipts.old index (shown_receipt result) }
 {
     let before = entries[entry as usize].state();
     let (receipt, after) = asked(entry, before, op);
     store(entries, &receipt, &after);
-    put_receipt(&receipt, receipts, place);
+    put_receipt(&receipt, receipts, index);
     receipt
 }
 
 /// Makes the call behind the first `made` on its entry, and puts its receipt into the caller's
-/// place, where there is one. Gives back how the trial ended, or `None` where the next call
+/// slot, where there is one. Gives back how the trial ended, or `None` where the next call
 /// follows.
 #[inline(always)]
 fn try_next<C: CallList>(
@@ -118,8 +107,8 @@ fn try_next<C: CallList>(
         (record {
           before = states_of entries.old;
           after = states_of entries.new;
-          places_before = receipts.old;
-          places_after = receipts.new;
+          slots_before = receipts.old;
+          slots_after = receipts.new;
         })
         result }
     ensures passed { ArePassed entries.old entries.new }
@@ -141,7 +130,7 @@ fn try_next<C: CallList>(
 }
 
 /// Makes calls on entries in turn, as long as the answers go on. The receipts are put into the
-/// caller's places, as far as these go.
+/// caller's slots, as far as these go.
 // In line, so that each caller has the part of `reply` that its operation needs, and no other.
 #[inline(always)]
 pub fn try_lent<C: CallList>(

@@ -16,18 +16,13 @@ use c_layout::{
     PaprEntry, PaprGrants, PaprReceipt, PaprReply, either_stale, filled_count, is_stale, put_word,
 };
 use dma_window::{address, entering, permits, tce_of};
-use entry_model::{Answer, DeviceOutcome, Op, Test};
+use entry_model::{Answer, DeviceOutcome, NO_TEST, Op};
 use frame_grants::Kind;
 use page_grants::GrantedMemory;
 use papr_codes::Rc;
 
 /// What empties an entry: any valid one passes its test.
-const REMOVAL: Op = Op::Remove {
-    test: Test {
-        avpn: None,
-        andcond: None,
-    },
-};
+const REMOVAL: Op = Op::Remove { test: NO_TEST };
 
 /// What became of a device's access.
 #[repr(C)]
@@ -39,7 +34,7 @@ pub struct PaprDevice {
     /// outside the window, 3 where no single grant of ram holds the page, 4 where there can be no
     /// such window.
     pub outcome: u32,
-    /// How many of the caller's places for receipts were filled.
+    /// How many of the caller's slots for receipts were filled.
     pub receipts: u32,
 }
 
@@ -135,7 +130,7 @@ fn clear(entries: &mut [PaprEntry], entry: u32, receipts: &mut [PaprReceipt]) ->
     let room = receipts.len();
     let removed = make(entries, &REMOVAL, entry, receipts, 0);
     let stale = is_stale(removed.answer);
-    PaprReply::told(code_of(removed.answer), 0, filled_count(room, 1), stale)
+    PaprReply::answered(code_of(removed.answer), 0, filled_count(room, 1), stale)
 }
 
 /// Empties an entry, and makes this operation on it.
@@ -157,11 +152,11 @@ fn replace(
     let removed = make(entries, &REMOVAL, entry, receipts, 0);
     let stale = is_stale(removed.answer);
     if is_worn(removed.answer) {
-        return PaprReply::told(Rc::Hardware, 0, filled_count(room, 1), stale);
+        return PaprReply::answered(Rc::Hardware, 0, filled_count(room, 1), stale);
     }
     let entered = make(entries, op, entry, receipts, 1);
     let stale = either_stale(removed.answer, entered.answer);
-    PaprReply::told(code_of(entered.answer), 0, filled_count(room, 2), stale)
+    PaprReply::answered(code_of(entered.answer), 0, filled_count(room, 2), stale)
 }
 
 /// H_PUT_TCE on the entry of a page.
@@ -241,7 +236,7 @@ pub extern "C" fn papr_get_tce(
     let shown = filled_count(words.len(), 1);
     let read = make(entries, &Op::Read, entry, receipts, 0);
     put_word(tce_of(&read.before), words, 0);
-    PaprReply::told(Rc::Success, shown, filled, false)
+    PaprReply::answered(Rc::Success, shown, filled, false)
 }
 
 /// Where a device's access ends by the page's TCE.

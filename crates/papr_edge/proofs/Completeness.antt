@@ -1,6 +1,6 @@
 -- A command that has its input is answered, and one whose input can't be read so refuses it, where
 -- neither source nor sink fails, unless memory ends.
-use Rattle.std.proofs.Common.{◌≡◌, ◌≢◌, ◌⊎◌, ℕ, ◌^◌, ◌<◌, ◌≤◌, List, [], ◌++◌, length, true, false, Option, Some, None, Result, IsSomeAnd, IsOk, IsErr, sym, refl, subst, ap, ◌∙◌, inl, inr, arith, length-append}
+use Rattle.std.proofs.Common.{◌≡◌, ◌≢◌, ◌⊎◌, ℕ, ◌<◌, ◌≤◌, List, [], ◌++◌, length, true, false, Option, Some, None, Result, IsSomeAnd, IsOk, IsErr, sym, refl, subst, ap, ◌∙◌, inl, inr, arith, length-append}
 use Rattle.std.proofs.lemmas.Bool.{cases_lt}
 use Rattle.std.proofs.lemmas.List.{append-nil}
 use Rattle.papr_edge.specs.declared.reason.Reason.{Reason}

@@ -26,17 +26,6 @@ pub record IsCutTo (bytes : List ℕ) (start : ℕ) (left : Option (Bor (List �
       MatchOption left (Unit {0})
       (λ r. (start ≤ length bytes) × (bytes ≡ take start bytes ++ r.now))
 
-none_before : (o : Option (List ℕ × List ℕ)) → o ≡ option_map (behind []) o
-none_before None = refl
-none_before (Some parts) = refl
-
-pub at_begin : (bytes : Bor (List ℕ)) → IsCutTo bytes.now 0 (Some bytes)
-at_begin bytes =
-    record {
-      cut = none_before (cut_lines (slice_split is_lf bytes.now));
-      rest = (omega arith, refl);
-    }
-
 -- A front, a line and its LF stand before the rest.
 line_taken :
     (front line rest : List ℕ)

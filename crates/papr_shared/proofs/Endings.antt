@@ -15,7 +15,7 @@ use Rattle.authority_mask.specs.declared.masks.MaskName.{MaskName}
 use Rattle.authority_mask.specs.declared.masks.MaskName.TheVariants.{Amr, Iamr}
 use Rattle.entry_lock.specs.declared.busy.Busy.{Busy}
 use Rattle.hpt_walk.specs.Access.{refusing_mask}
-use Rattle.c_layout.specs.Places.{filled, shown_receipt}
+use Rattle.c_layout.specs.Slots.{filled, shown_receipt}
 use Rattle.c_layout.specs.WalkEnds.{refusal_number, walk_end}
 use Rattle.shared_pass.specs.declared.held.HeldCall.{HeldCall}
 use Rattle.shared_pass.specs.declared.held.Pending.{Pending}

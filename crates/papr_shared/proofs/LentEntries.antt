@@ -28,14 +28,6 @@ listed_more es i d s old new below is so_far pushed =
     rw add-one
     (pushed ∙ (λ k. so_far k ++ is k ∷ []) ∙ sym (take_more es i d below))
 
-pub listed_all :
-    (es : List Entry) (i : ℕ) (items : List State)
-    → length es ≤ i
-    → items ≡ states_of (take i es)
-    → items ≡ states_of es
-listed_all es i items all so_far =
-    so_far ∙ ap (λ (xs : List Entry). states_of xs) (take_all i es all)
-
 -- ---- states that are given
 with-length :
     (es : List Entry) (ss : List State) → length (entries_with es ss) ≡ length es

@@ -7,7 +7,7 @@ use Rattle.entry_model.specs.Trial.{IsTrial, receipts_added}
 use Rattle.c_layout.specs.declared.receipts.PaprReceipt.{PaprReceipt}
 use Rattle.c_layout.specs.declared.walking.PaprAccess.{PaprAccess}
 use Rattle.c_layout.specs.declared.walking.PaprWalk.{PaprWalk}
-use Rattle.c_layout.specs.Places.{filled, shown_receipt}
+use Rattle.c_layout.specs.Slots.{filled, shown_receipt}
 use Rattle.c_layout.specs.WalkEnds.{no_entry, walk_end}
 use Rattle.shared_pass.specs.declared.working.Working.{Working}
 use Rattle.shared_pass.specs.declared.held.Pending.{Pending}
@@ -22,12 +22,12 @@ use Rattle.papr_shared.specs.Answers.{HandedWalk, IsRefusedWalk}
 -- What the receipts tell at the end: the entry that was found, as the walk left it, or that there
 -- is none.
 abbrev pub end_told : PageWalk → List Receipt → List PaprReceipt → PaprWalk
-end_told w rs places =
-    walk_end after_of w.access w.want (found_of rs) (min (length places) (length rs))
+end_told w rs slots =
+    walk_end after_of w.access w.want (found_of rs) (min (length slots) (length rs))
 
 -- What is told while an entry is busy.
 abbrev pub busy_told : List Receipt → List PaprReceipt → PaprWalk
-busy_told rs places = no_entry 6 (min (length places) (length rs))
+busy_told rs slots = no_entry 6 (min (length slots) (length rs))
 
 -- The walk came to its end, and doesn't say that it is busy.
 pub record HasFound (w : PageWalk) (y : Working) (h : HandedWalk) : Type 0 where
@@ -43,7 +43,7 @@ pub record IsHeldUpWalk (w : PageWalk) (y : Working) (h : HandedWalk) : Type 0 w
   pub not_alone : y.sharer.pass.shares ≢ (arc_value y.sharer.table).passes
   pub found : h.found ≡ busy_told y.receipts h.receipts
 
--- One of the two. The receipts are in the places, as far as they go.
+-- One of the two. The receipts are in the slots, as far as they go.
 pub record IsWalked (w : PageWalk) (y : Working) (h : HandedWalk) : Type 0 where
   pub receipts : h.receipts_after ≡ filled h.receipts (map shown_receipt y.receipts)
   pub tried : HasFound w y h ⊎ IsHeldUpWalk w y h

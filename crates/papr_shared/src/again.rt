@@ -7,7 +7,7 @@ use shared_pass::PaprPass;
 use std::alloc::Global;
 
 /// Goes on with the call of this pass that is held up. The words and the receipts are those of the
-/// whole call, from the first place on.
+/// whole call, from the first slot on.
 #[unsafe(no_mangle)]
 pub extern "C" fn papr_again(
     alloc: Global,
@@ -16,8 +16,8 @@ pub extern "C" fn papr_again(
     receipts: &mut [PaprReceipt],
 ) -> PaprReply
     ensures { IsAgain
-        pass.old.place.held
-        pass.new.place.held
+        pass.old.pointer.held
+        pass.new.pointer.held
         (handed words.old words.new receipts.old receipts.new result) }
 {
     let Some(mut working) = pass.take(alloc) else {

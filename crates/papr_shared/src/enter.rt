@@ -27,8 +27,8 @@ pub extern "C" fn papr_try_h_enter(
     ensures { let list = listed grants.now.grants grants.now.count in
         IsCall
         (λ order. h_enter_plan order list flags ptex pteh ptel)
-        pass.old.place.held
-        pass.new.place.held
+        pass.old.pointer.held
+        pass.new.pointer.held
         (handed words.old words.new receipts.old receipts.new result) }
 {
     let Some(mut working) = pass.take(alloc) else {

@@ -5,7 +5,7 @@ use c_layout::{PaprReceipt, PaprReply, any_stale, hand_over, put_receipts};
 use entry_model::Registers;
 use shared_pass::Working;
 
-/// Puts what a call has given, and its receipts, into the caller's places, as far as these go.
+/// Puts what a call has given, and its receipts, into the caller's slots, as far as these go.
 #[inline(always)]
 pub fn hand_over_call(
     working: &Working,

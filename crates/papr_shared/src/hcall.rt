@@ -24,8 +24,8 @@ pub extern "C" fn papr_try_hcall(
     ensures { let list = listed grants.now.grants grants.now.count in
         IsCall
         (numbered_plan list number args.old)
-        pass.old.place.held
-        pass.new.place.held
+        pass.old.pointer.held
+        pass.new.pointer.held
         (handed args.old args.new receipts.old receipts.new result) }
 {
     let Some(mut working) = pass.take(alloc) else {

@@ -66,8 +66,8 @@ pub extern "C" fn papr_open(
         (states_of entries.now)
         order
         passes
-        pass.old.place.held
-        pass.new.place.held
+        pass.old.pointer.held
+        pass.new.pointer.held
         result }
 {
     if pass.is_open() || !can_open(entries, order, passes) {

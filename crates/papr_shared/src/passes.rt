@@ -14,11 +14,11 @@ use std::alloc::Global;
 
 /// Puts a new pass with one of the shares into `other`.
 fn split(alloc: Global, working: &mut Working, other: &mut PaprPass) -> Rc
-    requires { other.old.place.held ≡ None }
+    requires { other.old.pointer.held ≡ None }
     ensures { spec.SplitsBy
         (nat_le 2 working.old.sharer.pass.shares)
         working.old
-        (spec.two_after (Some working.new) other.new.place.held (rc_code result)) }
+        (spec.two_after (Some working.new) other.new.pointer.held (rc_code result)) }
 {
     if working.shares() < 2 {
         return Rc::Resource;
@@ -39,9 +39,9 @@ fn split(alloc: Global, working: &mut Working, other: &mut PaprPass) -> Rc
 #[unsafe(no_mangle)]
 pub extern "C" fn papr_split(alloc: Global, pass: &mut PaprPass, other: &mut PaprPass) -> i64
     ensures { spec.IsSplitting
-        pass.old.place.held
-        other.old.place.held
-        (spec.two_after pass.new.place.held other.new.place.held result) }
+        pass.old.pointer.held
+        other.old.pointer.held
+        (spec.two_after pass.new.pointer.held other.new.pointer.held result) }
 {
     if other.is_open() {
         return Rc::Parameter.code();
@@ -57,11 +57,11 @@ pub extern "C" fn papr_split(alloc: Global, pass: &mut PaprPass, other: &mut Pap
 /// Takes `other` into `pass`: its shares and what it has made. `other` is closed then.
 #[unsafe(no_mangle)]
 pub extern "C" fn papr_join(alloc: Global, pass: &mut PaprPass, other: &mut PaprPass) -> i64
-    requires { spec.AreOfOneTable pass.old.place.held other.old.place.held }
+    requires { spec.AreOfOneTable pass.old.pointer.held other.old.pointer.held }
     ensures { spec.IsJoining
-        pass.old.place.held
-        other.old.place.held
-        (spec.two_after pass.new.place.held other.new.place.held result) }
+        pass.old.pointer.held
+        other.old.pointer.held
+        (spec.two_after pass.new.pointer.held other.new.pointer.held result) }
 {
     let Some(mut working) = pass.take(alloc) else {
         return Rc::Parameter.code();
@@ -86,7 +86,7 @@ struct StillOpen {
     rc: Rc,
 }
 
-/// Gives each entry the state at its place.
+/// Gives each entry the state at its index.
 fn put_states(entries: &mut [PaprEntry], states: &[EntryState])
     requires { length states.now ≡ length (states_of entries.old) }
     ensures states { states_of entries.new ≡ states.now }
@@ -145,11 +145,11 @@ fn write_back(working: Box<Working>, entries: &mut [PaprEntry]) -> Result<(), St
 #[unsafe(no_mangle)]
 pub extern "C" fn papr_close(alloc: Global, pass: &mut PaprPass, entries: &mut [PaprEntry]) -> i64
     ensures told { spec.IsClosing
-        pass.old.place.held
+        pass.old.pointer.held
         (spec.closed_after
         (states_of entries.old)
         (states_of entries.new)
-        pass.new.place.held
+        pass.new.pointer.held
         result) }
     ensures marks { AreMarked entries.old entries.new }
 {

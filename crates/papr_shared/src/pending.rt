@@ -8,8 +8,8 @@ use std::alloc::Global;
 /// Why the call or the walk of this pass is held up.
 #[unsafe(no_mangle)]
 pub extern "C" fn papr_held_up(alloc: Global, pass: &mut PaprPass) -> PaprBusy
-    ensures told { result ≡ busy_of pass.old.place.held }
-    ensures same { pass.new.place.held ≡ pass.old.place.held }
+    ensures told { result ≡ busy_of pass.old.pointer.held }
+    ensures same { pass.new.pointer.held ≡ pass.old.pointer.held }
 {
     let Some(working) = pass.take(alloc) else {
         return PaprBusy::none();
@@ -22,7 +22,7 @@ pub extern "C" fn papr_held_up(alloc: Global, pass: &mut PaprPass) -> PaprBusy
 /// Gives up the call or the walk that is held up. What it has made stays made.
 #[unsafe(no_mangle)]
 pub extern "C" fn papr_give_up(alloc: Global, pass: &mut PaprPass)
-    ensures { IsGivenUp pass.old.place.held pass.new.place.held }
+    ensures { IsGivenUp pass.old.pointer.held pass.new.pointer.held }
 {
     let Some(mut working) = pass.take(alloc) else {
         return;

@@ -18,8 +18,8 @@ fn remove_pairs(
 ) -> PaprReply
     ensures { IsCall
         (λ order. h_bulk_remove_plan order pairs.now)
-        pass.old.place.held
-        pass.new.place.held
+        pass.old.pointer.held
+        pass.new.pointer.held
         (handed words.old words.new receipts.old receipts.new result) }
 {
     let Some(mut working) = pass.take(alloc) else {
@@ -45,8 +45,8 @@ pub extern "C" fn papr_try_h_bulk_remove(
     ensures { IsBulkCall
         pairs.now
         (λ order. h_bulk_remove_plan order pairs.now)
-        pass.old.place.held
-        pass.new.place.held
+        pass.old.pointer.held
+        pass.new.pointer.held
         (handed words.old words.new receipts.old receipts.new result) }
 {
     let Some(pairs) = pairs.as_array() else {

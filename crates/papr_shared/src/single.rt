@@ -22,8 +22,8 @@ pub extern "C" fn papr_try_h_remove(
 ) -> PaprReply
     ensures { IsCall
         (λ order. single.h_remove_plan order flags ptex avpn)
-        pass.old.place.held
-        pass.new.place.held
+        pass.old.pointer.held
+        pass.new.pointer.held
         (handed words.old words.new receipts.old receipts.new result) }
 {
     let Some(mut working) = pass.take(alloc) else {
@@ -49,8 +49,8 @@ pub extern "C" fn papr_try_h_protect(
 ) -> PaprReply
     ensures { IsCall
         (λ order. single.h_protect_plan order flags ptex avpn)
-        pass.old.place.held
-        pass.new.place.held
+        pass.old.pointer.held
+        pass.new.pointer.held
         (handed words.old words.new receipts.old receipts.new result) }
 {
     let Some(mut working) = pass.take(alloc) else {
@@ -75,8 +75,8 @@ pub extern "C" fn papr_try_h_read(
 ) -> PaprReply
     ensures { IsCall
         (λ order. single.h_read_plan order flags ptex)
-        pass.old.place.held
-        pass.new.place.held
+        pass.old.pointer.held
+        pass.new.pointer.held
         (handed words.old words.new receipts.old receipts.new result) }
 {
     let Some(mut working) = pass.take(alloc) else {
@@ -101,8 +101,8 @@ pub extern "C" fn papr_try_h_clear_ref(
 ) -> PaprReply
     ensures { IsCall
         (λ order. single.h_clear_ref_plan order ptex)
-        pass.old.place.held
-        pass.new.place.held
+        pass.old.pointer.held
+        pass.new.pointer.held
         (handed words.old words.new receipts.old receipts.new result) }
 {
     let Some(mut working) = pass.take(alloc) else {
@@ -127,8 +127,8 @@ pub extern "C" fn papr_try_h_clear_mod(
 ) -> PaprReply
     ensures { IsCall
         (λ order. single.h_clear_mod_plan order ptex)
-        pass.old.place.held
-        pass.new.place.held
+        pass.old.pointer.held
+        pass.new.pointer.held
         (handed words.old words.new receipts.old receipts.new result) }
 {
     let Some(mut working) = pass.take(alloc) else {

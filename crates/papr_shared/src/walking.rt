@@ -1,6 +1,6 @@
 ghost use Rattle.std.specs.Prelude.{◌≡◌, map, IfOk, IfErr};
 ghost use Rattle.entry_model.specs.Receipt.{found_of};
-ghost use Rattle.c_layout.specs.Places.{filled, shown_receipt};
+ghost use Rattle.c_layout.specs.Slots.{filled, shown_receipt};
 ghost use Rattle.shared_pass.specs.Walks.{walk_asked};
 ghost use Rattle.papr_shared.specs.Answers.{handed_walk};
 ghost use Rattle.papr_shared.specs.Walks.{end_told, busy_told, IsWalkBy, IsWalkAgainBy, IsWalk, IsWalkAgain};
@@ -14,7 +14,7 @@ use std::alloc::Global;
 /// An entry is busy.
 const BUSY: u32 = 6;
 
-/// Puts the receipts of a walk into the caller's places, as far as these go, and tells how a try of
+/// Puts the receipts of a walk into the caller's slots, as far as these go, and tells how a try of
 /// it ended.
 fn hand_over_walk(
     working: &Working,
@@ -85,20 +85,20 @@ pub extern "C" fn papr_try_walk(
 ) -> PaprWalk
     ensures { IsWalk
         access.now
-        pass.old.place.held
-        pass.new.place.held
+        pass.old.pointer.held
+        pass.new.pointer.held
         (handed_walk receipts.old receipts.new result) }
 {
     let Some(mut working) = pass.take(alloc) else {
         return PaprWalk::refused();
     };
-    let told = begin(&mut working, access, receipts);
+    let walk = begin(&mut working, access, receipts);
     pass.put(working);
-    told
+    walk
 }
 
 /// Goes on with the walk of this pass that is held up. The receipts are those of the whole walk,
-/// from the first place on.
+/// from the first slot on.
 #[unsafe(no_mangle)]
 pub extern "C" fn papr_walk_again(
     alloc: Global,
@@ -106,14 +106,14 @@ pub extern "C" fn papr_walk_again(
     receipts: &mut [PaprReceipt],
 ) -> PaprWalk
     ensures { IsWalkAgain
-        pass.old.place.held
-        pass.new.place.held
+        pass.old.pointer.held
+        pass.new.pointer.held
         (handed_walk receipts.old receipts.new result) }
 {
     let Some(mut working) = pass.take(alloc) else {
         return PaprWalk::refused();
     };
-    let told = go_on(&mut working, receipts);
+    let walk = go_on(&mut working, receipts);
     pass.put(working);
-    told
+    walk
 }

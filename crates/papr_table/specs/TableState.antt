@@ -1,9 +1,9 @@
 -- What contracts see of a plain table.
-use Rattle.std.specs.Prelude.{◌≡◌, ℕ, ◌<◌, List, ◌++◌}
+use Rattle.std.specs.Prelude.{◌≡◌, ℕ, ◌<◌, List}
 use Rattle.entry_model.specs.State.{State}
 use Rattle.entry_model.specs.declared.line.Line.{Line}
 use Rattle.entry_model.specs.declared.receipt.Receipt.{Receipt}
-use Rattle.entry_model.specs.CachedLines.{Holds, ShowsLine, AllLater}
+use Rattle.entry_model.specs.CachedLines.{Holds}
 use Rattle.entry_model.specs.Run.{IsRun, state_at}
 
 -- The states of all entries, and the table's order.

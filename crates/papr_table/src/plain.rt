@@ -74,10 +74,10 @@ impl EntryStore for PlainTable {
     }
 
     fn apply(&mut self, entry: u32, op: Op) -> Receipt {
-        let place = entry as usize;
-        let before = self.states[place];
+        let index = entry as usize;
+        let before = self.states[index];
         let (answer, after) = reply(&before, &op);
-        self.states[place] = after;
+        self.states[index] = after;
         Receipt {
             entry,
             before,

@@ -1,24 +1,23 @@
 -- How each command ends, from what it read and wrote, and from its faults.
-use Rattle.std.proofs.Common.{◌≡◌, ◌≢◌, ◌⊎◌, ℕ, List, Some, None, Result, IsSomeAnd, IsOk, IsErr, refl, inl, inr}
+use Rattle.std.proofs.Common.{◌≡◌, ◌≢◌, ◌⊎◌, ℕ, List, Some, Result, IsSomeAnd, IsOk, IsErr, refl, inl, inr}
 use Rattle.table_image.specs.declared.layout.Layout.{Layout}
 use Rattle.papr_edge.specs.declared.command.Command.{Command}
 use Rattle.papr_edge.specs.declared.command.Command.TheVariants as commands
 use Rattle.papr_edge.specs.declared.reason.Reason.{Reason}
 use Rattle.papr_edge.specs.declared.status.Status.{Status}
 use Rattle.papr_edge.specs.declared.status.Status.TheVariants.{Done, Usage, Refused, ReadFault, WriteFault, Memory, CheckNo}
-use Rattle.papr_edge.specs.Ends.{Run, EndsReading, EndsAnswered, WithDone, IsAnswered}
+use Rattle.papr_edge.specs.Ends.{Run, EndsReading, EndsAnswered, WithDone}
 use Rattle.papr_edge.specs.Inputs.{trace_input, judged_input}
 use Rattle.papr_edge.specs.InputLaws.{long_trace, long_judged}
 use Rattle.papr_edge.specs.Reading.{RefusesLong}
 use Rattle.papr_edge.proofs.Completeness.{text_done, judged_done, reading_refused}
 use Rattle.papr_edge.proofs.Outcomes.{ends_reading}
-use Rattle.trace_gen.specs.Generated.{generated_trace}
 use Rattle.papr_top.specs.Texts.{IsSerialText, IsParallelText}
 use Rattle.papr_top.specs.Judging.{IsVerdictText}
 use Rattle.papr_top.specs.Images.{IsImage}
 use Rattle.papr_top.specs.Sets.{set_input, IsSetText}
 use Rattle.papr_top.specs.InputLaws.{long_set}
-use Rattle.papr_top.specs.Top.{IsOutcome, HasInput, HasRefusedInput, EndsDrill, EndsUsage}
+use Rattle.papr_top.specs.Top.{IsOutcome, HasInput, HasRefusedInput, EndsUsage}
 use Rattle.papr_top.specs.Ends.{Sides, TellsFaults, SourceFailed, SinkFailed, EndsCommand}
 use Rattle.papr_top.proofs.Endings.{verdict_told}
 use Rattle.papr_top.proofs.ImageEnds.{as_image, image_done, image_refused}
@@ -143,35 +142,6 @@ image_ends layout sides status said faults =
       faults = faults;
     }
 
-drill_done :
-    (seed lines : ℕ) (run : Run) (status : Status)
-    → EndsDrill (generated_trace seed lines) run status
-    → status ≢ WriteFault
-    → IsAnswered (Some (commands.Drill seed lines)) status ⊎ (status ≡ Memory)
-drill_done seed lines run Done ended stands = inl tt
-drill_done seed lines run Memory ended stands = inr refl
-drill_done seed lines run WriteFault ended stands = absurd (stands refl)
-drill_done seed lines run Usage ended stands = absurd ended
-drill_done seed lines run Refused ended stands = absurd ended
-drill_done seed lines run ReadFault ended stands = absurd ended
-drill_done seed lines run CheckNo ended stands = absurd ended
-
-pub drill_ends :
-    (seed lines : ℕ) (sides : Sides) (status : Status)
-    → EndsDrill (generated_trace seed lines) sides.run status
-    → TellsFaults sides status
-    → EndsCommand (Some (commands.Drill seed lines)) sides status
-drill_ends seed lines sides status ended faults =
-    record {
-      outcome = ended;
-      usage = λ none. cc;
-      complete =
-          λ has source sink.
-          drill_done seed lines sides.run status ended (no_write_fault sides status faults sink);
-      refuses = λ has source sink. absurd has;
-      faults = faults;
-    }
-
 used :
     (run : Run) (status : Status) → EndsUsage run status → (status ≡ Usage) ⊎ (status ≡ WriteFault)
 used run Usage ended = inl refl
@@ -181,17 +151,3 @@ used run Refused ended = absurd ended
 used run ReadFault ended = absurd ended
 used run Memory ended = absurd ended
 used run CheckNo ended = absurd ended
-
-pub usage_ends :
-    (sides : Sides) (status : Status)
-    → EndsUsage sides.run status
-    → TellsFaults sides status
-    → EndsCommand None sides status
-usage_ends sides status ended faults =
-    record {
-      outcome = ended;
-      usage = λ none. used sides.run status ended;
-      complete = λ has source sink. absurd has;
-      refuses = λ has source sink. absurd has;
-      faults = faults;
-    }

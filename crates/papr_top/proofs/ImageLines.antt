@@ -1,7 +1,6 @@
 -- The line of an entry in an image opens the entry again.
 use Rattle.std.specs.Prelude.{if◌then◌else◌, slice_index_or, codes}
 use Rattle.std.proofs.Common.{◌≡◌, ℕ, zero, suc, ◌+◌, ◌^◌, ◌<◌, ◌≤◌, List, [], ◌∷◌, ◌++◌, length, Bool, true, false, Result, Ok, Err, refl, sym, ap, ◌∙◌, append_assoc, arith}
-use Rattle.std.specs.List.{AllByRecursion}
 use Rattle.std.proofs.lemmas.Bool.{lt-ltb, le-leb, le-ltb}
 use Rattle.number_text.specs.Numbers.{hex}
 use Rattle.table_image.specs.declared.layout.Layout.{Layout}
@@ -28,6 +27,7 @@ use Rattle.run_model.proofs.TableSizes.{small_index, serial_sized}
 use Rattle.papr_top.specs.ImageLines.{with_lfs, bytes_again, reading_after, ImageLinesOpenAgain}
 use Rattle.papr_top.proofs.LineBytes.{IsLine, AreDigits, four_words, words_back, four_text, text_line, text_printable, text_whole, lines_again, lines_joined, digits_spelt, layout_spelt, entry_spelt, hex_spelt}
 use Rattle.trace_line.specs.Lines.{most_lines}
+use Rattle.basics.proofs.Each.{each_append}
 
 -- ---- the index
 -- What is shown has its index in the table.
@@ -109,14 +109,6 @@ bytes_are head layout index digits =
     ∙ ap (λ z. x ++ z)
     (sym (append_assoc (codes "entry") (32 ∷ (w ++ 32 ∷ (h ++ 32 ∷ digits))) (10 ∷ begin)))
     ∙ sym (lines_joined head (entry_bytes layout index digits ∷ codes "begin" ∷ []))
-
-both_all :
-    {A : Type 0} (P : A → Type 0) (xs ys : List A)
-    → AllByRecursion P xs
-    → AllByRecursion P ys
-    → AllByRecursion P (xs ++ ys)
-both_all P [] ys first second = second
-both_all P (x ∷ xs) ys first second = (first.0, both_all P xs ys first.1 second)
 
 begin_line : IsLine (codes "begin")
 begin_line = (refl, (refl, (refl, (refl, (refl, tt)))))
@@ -261,7 +253,7 @@ image_lines_open again t lines layout index s digits head r is shown held may or
     (layout_spelt layout).word (hex_spelt index small).word spelt.word) in
     let cut : raw_lines (with_lfs (all_lines head layout index digits)) ≡ all_lines head layout
     index digits = lines_again (all_lines head layout index digits)
-    (both_all IsLine head (entry_bytes layout index digits ∷ codes "begin" ∷ []) may.lines
+    (each_append IsLine head (entry_bytes layout index digits ∷ codes "begin" ∷ []) may.lines
     (entry_line, (begin_line, tt))) in
     record {
       trace = trace_made r c;

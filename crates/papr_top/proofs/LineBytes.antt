@@ -13,7 +13,7 @@ use Rattle.std.proofs.lemmas.List.Splits.{slice_split-cons_yes, slice_split-cons
 use Rattle.std.proofs.Math.Seq.{take-append_seam, get_or-append_seam}
 use Rattle.std.proofs.lemmas.Bool.{and_parts}
 use Rattle.std.proofs.lemmas.List.{length-append, append-nil}
-use Rattle.std.specs.Int.{byte_at, bytes_high_first}
+use Rattle.std.specs.Int.{bytes_high_first}
 use Rattle.hex.specs.Hex.{IsBytes, encode_with, lower_digits}
 use Rattle.number_text.specs.Numbers.{hex}
 use Rattle.table_image.specs.declared.layout.Layout.{Layout}
@@ -22,6 +22,7 @@ use Rattle.table_image.specs.Image.{layout_word}
 use Rattle.table_image.specs.Layouts.{entry_digits, digits_of_words, laid_out}
 use Rattle.trace_read.specs.TextLines.{is_lf, is_blank, is_printable, without_last, without_cr, raw_lines, words_of}
 use Rattle.papr_top.specs.ImageLines.{with_lfs}
+use Rattle.table_image.proofs.DigitTexts.{no_bytes, bytes_of_number}
 
 -- ---- cutting
 -- Up to the first separator.
@@ -284,18 +285,6 @@ encoded_word (b ∷ rest) small =
         encoded_word rest (λ i. small (suc i)),
       ),
     )
-
-byte_small : (k x : ℕ) → byte_at k x < 256
-byte_small zero x = omega arith
-byte_small (suc k) x = omega arith
-
-bytes_of_number : (n x : ℕ) (rest : List ℕ) → IsBytes rest → IsBytes (bytes_high_first n x ++ rest)
-bytes_of_number zero x rest told i = told i
-bytes_of_number (suc n) x rest told zero = byte_small n x
-bytes_of_number (suc n) x rest told (suc i) = bytes_of_number n x rest told i
-
-no_bytes : IsBytes []
-no_bytes i = omega arith
 
 -- The digits of an entry are a word.
 pub record AreDigits (digits : List ℕ) : Type 0 where

@@ -9,17 +9,13 @@ use Rattle.entry_model.specs.declared.access_reply.AccessReply.{AccessReply}
 use Rattle.entry_model.specs.declared.receipt.Receipt.{Receipt}
 use Rattle.entry_model.specs.Run.{IsRun}
 use Rattle.entry_model.specs.State.{State}
-use Rattle.tlb_model.specs.Cache.{AllCached, empty_cache}
+use Rattle.tlb_model.specs.Cache.{AllCached}
 use Rattle.hpt_walk.specs.declared.request.Request.{Request}
 use Rattle.hpt_walk.specs.Access.{AccessContext, IsAccessReply, no_segment_reply}
 
 all_in_none : (P : Line → Type 0) (n : ℕ) → AllCached P (replicate n [])
 all_in_none P zero = tt
 all_in_none P (suc n) = (tt, all_in_none P n)
-
-pub all_cached : (P : Line → Type 0) → AllCached P empty_cache
-unfolding empty_cache
-all_cached P = all_in_none P 32
 
 no_segment : (ea : ℕ) → segment_of no_slots ea ≡ None
 unfolding no_slots segment_of

@@ -1,23 +1,11 @@
 -- A cache of one line.
-use Rattle.std.proofs.Common.{◌≡◌, ◌<◌, Bool, true, false, List, [], ◌∷◌, replicate, Some, None, refl, sym, ap, ◌∙◌, arith}
-use Rattle.basics.specs.Words.{bool_eq}
-use Rattle.std.proofs.lemmas.Bool.{and_from, eq-eqb}
+use Rattle.std.proofs.Common.{◌≡◌, ◌<◌, List, [], ◌∷◌, replicate, Some, None, refl, sym, ap, ◌∙◌, arith}
 use Rattle.std.proofs.lemmas.List.{get_or-replicate, get_or-set_same, set-set, set-get_or}
-use Rattle.power_addr.specs.Pages.{VirtualPage, same_page}
+use Rattle.power_addr.specs.Pages.{VirtualPage}
 use Rattle.entry_model.specs.declared.line.Line.{Line}
 use Rattle.tlb_model.specs.Cache.{cached_line, empty_cache, line_of_page, put_last, set_number, set_of, without_page}
 use Rattle.tlb_model.specs.Sets.{with_set}
-
-bool_self : (b : Bool) → bool_eq b b ≡ true
-bool_self true = refl
-bool_self false = refl
-
-page_self : (page : VirtualPage) → same_page page page ≡ true
-unfolding same_page
-page_self page =
-    and_from _ _
-    (and_from _ _ (and_from _ _ (bool_self page.one_tb) (eq-eqb page.vsid page.vsid refl))
-    (eq-eqb page.shift page.shift refl)) (eq-eqb page.index page.index refl)
+use Rattle.power_addr.proofs.SamePages.{page_self}
 
 -- The page's set is one of the 32.
 within : (page : VirtualPage) → set_number page < 32

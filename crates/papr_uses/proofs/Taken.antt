@@ -1,11 +1,12 @@
 -- The taken blocks of a pool after a block is taken, and after it is given back.
-use Rattle.std.proofs.Common.{◌≡◌, ℕ, zero, suc, ◌<◌, ◌≤◌, ◌+◌, ◌^◌, ◌==◌, Bool, true, false, not, List, [], ◌∷◌, ◌++◌, length, get_or, filter, All, AllPairs, Contains, refl, sym, ap, ◌∙◌, subst, inl, inr, ◌⊎◌, arith}
+use Rattle.std.proofs.Common.{◌≡◌, ℕ, suc, ◌<◌, ◌≤◌, ◌+◌, ◌^◌, ◌==◌, Bool, true, false, not, List, [], ◌∷◌, ◌++◌, length, get_or, filter, All, AllPairs, Contains, refl, sym, ap, ◌∙◌, subst, inl, inr, ◌⊎◌, arith}
 use Rattle.std.specs.List.{list_any}
 use Rattle.std.proofs.lemmas.Bool.{cases_Bool, cases_lt, lt-ltb, le-ltb, eq-eqb, ne_eqb, and_from, and_parts, not-true}
 use Rattle.std.proofs.lemmas.Nat.{pow_pos}
-use Rattle.std.proofs.lemmas.List.Elements.{All-head, All-tail, All-contains_itself, All-weaker, All-filter, Contains-append_left, Contains-append_right, filter-append}
+use Rattle.std.proofs.lemmas.List.Elements.{All-head, All-tail, All-contains_itself, All-weaker, All-filter, filter-append}
 use Rattle.std.proofs.lemmas.List.Folds.{list_any_at}
 use Rattle.hpt_pool.specs.Pool.{Block, PoolState, block_at, begins_below, fits, overlap, taken_with, taken_without, with_block, without_block, IsLowest, IsSound}
+use Rattle.basics.proofs.Lists.{filter_none}
 
 -- ---- lists
 passing_filter :
@@ -16,13 +17,6 @@ passing_filter p (x ∷ xs) all =
       All-head (λ y. p y ≡ true) x xs all,
       passing_filter p xs (All-tail (λ y. p y ≡ true) x xs all),
     ) refl
-
-failing_filter :
-    {X : Type 0} (p : X → Bool) (xs : List X) → All (λ x. p x ≡ false) xs → filter p xs ≡ []
-failing_filter p [] all = refl
-failing_filter p (x ∷ xs) all =
-    rw (All-head (λ y. p y ≡ false) x xs all)
-    (failing_filter p xs (All-tail (λ y. p y ≡ false) x xs all))
 
 -- Where no element passes, one of them doesn't.
 pub fails_at :
@@ -38,55 +32,9 @@ fails_at {X} p xs x none (k, inside, is) = at (cases_Bool (p x)) where
       absurd (cc)
   at (inr fails) = fails
 
-further : {X : Type 0} (x y : X) (xs : List X) → Contains xs y → Contains (x ∷ xs) y
-further x y xs (k, inside, is) = (suc k, omega arith, is)
-
--- An element that passes is kept.
-kept_by :
-    {X : Type 0} (p : X → Bool) (xs : List X) (x : X)
-    → p x ≡ true
-    → Contains xs x
-    → Contains (filter p xs) x
-kept_by p [] x passes (k, inside, is) = absurd (omega arith)
-kept_by {X} p (y ∷ ys) x passes (zero, inside, is) =
-    let here : p y ≡ true = subst (λ (z : X). p z ≡ true) (sym is) passes in
-    rw here (0, omega arith, is)
-kept_by {X} p (y ∷ ys) x passes (suc k, inside, is) =
-    at (kept_by p ys x passes (k, omega arith, is)) (cases_Bool (p y)) where
-      at : Contains (filter p ys) x → (p y ≡ true) ⊎ (p y ≡ false) → Contains (filter p (y ∷ ys)) x
-      at later (inl kept) = rw kept (further y x (filter p ys) later)
-      at later (inr dropped) = rw dropped later
-
 -- ---- the blocks
 abbrev not_below : Block → Block → Bool
 not_below block other = not (begins_below block other)
-
--- A block that is taken is there.
-pub taken_has : (taken : List Block) (block : Block) → Contains (taken_with taken block) block
-unfolding taken_with
-taken_has taken block =
-    Contains-append_right (filter (begins_below block) taken)
-    (block ∷ filter (not_below block) taken) block (0, omega arith, refl)
-
--- So is each one that was.
-pub taken_keeps :
-    (taken : List Block) (block kept : Block)
-    → Contains taken kept
-    → Contains (taken_with taken block) kept
-unfolding taken_with
-taken_keeps taken block kept here = at (cases_Bool (begins_below block kept)) where
-  at :
-      (begins_below block kept ≡ true) ⊎ (begins_below block kept ≡ false)
-      → Contains (filter (begins_below block) taken ++ block ∷ filter (not_below block) taken) kept
-  at (inl below) =
-      Contains-append_left (filter (begins_below block) taken)
-      (block ∷ filter (not_below block) taken) kept
-      (kept_by (begins_below block) taken kept below here)
-  at (inr above) =
-      Contains-append_right (filter (begins_below block) taken)
-      (block ∷ filter (not_below block) taken) kept
-      (further block kept (filter (not_below block) taken)
-      (kept_by (not_below block) taken kept (ap not above) here))
 
 -- In rising blocks those that begin below another one stand first.
 rising_split :
@@ -111,7 +59,7 @@ rising_split block (b ∷ bs) rising =
           rw here (ap (λ (l : List Block). b ∷ l) rest)
       at rest (inr above) =
           let here : begins_below block b ≡ false = le-ltb b.place block.place above in
-          let none : filter (begins_below block) bs ≡ [] = failing_filter (begins_below block) bs
+          let none : filter (begins_below block) bs ≡ [] = filter_none (begins_below block) bs
           (λ k d inside.
           le-ltb (get_or bs k d).place block.place (let far = later k d inside in omega arith)) in
           let all : filter (not_below block) bs ≡ bs = passing_filter (not_below block) bs

@@ -1,11 +1,12 @@
 ghost use Rattle.std.specs.Prelude.{◌≡◌, ◌⊎◌, ℕ, ◌≤◌, false, Contains, Some, None, IfSome, IfNone};
 ghost use Rattle.hpt_pool.specs.Pool.{block_at, lowest_place, overlap, with_block};
+ghost use Rattle.pool_range.specs.Ranges.{least_pool_order};
 
 use hpt_pool::Pool;
 
 /// Takes a block and gives it back: the pool is as it was.
 pub fn take_and_give(pool: &mut Pool, order: u8) -> Option<u64>
-    requires at_least { 18 ≤ order }
+    requires at_least { least_pool_order ≤ order }
     requires at_most { order ≤ 46 }
     ensures place { result ≡ lowest_place pool.old order }
     ensures same { pool.new ≡ pool.old }
@@ -20,9 +21,9 @@ pub fn take_and_give(pool: &mut Pool, order: u8) -> Option<u64>
 
 /// Takes two blocks, which don't overlap. Where there is no room for both, it takes neither.
 pub fn take_pair(pool: &mut Pool, first: u8, second: u8) -> Option<(u64, u64)>
-    requires first_low { 18 ≤ first }
+    requires first_low { least_pool_order ≤ first }
     requires first_high { first ≤ 46 }
-    requires second_low { 18 ≤ second }
+    requires second_low { least_pool_order ≤ second }
     requires second_high { second ≤ 46 }
     ensures apart { IfSome
         result

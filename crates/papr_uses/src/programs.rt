@@ -1,5 +1,5 @@
 ghost use Rattle.std.specs.Prelude.{◌≡◌, ◌≢◌, ◌⊎◌, IsOk, IsErr};
-ghost use Rattle.trace_io.specs.Memory.{told};
+ghost use Rattle.trace_io.specs.Memory.{taken_bytes};
 ghost use Rattle.trace_read.specs.Grammar.{trace_of};
 ghost use Rattle.papr_uses.specs.RunText.{PutsTextOfBytes};
 
@@ -22,7 +22,7 @@ pub fn run_program(alloc: Global, input: Vec<u8>, sink: &mut SteadySink) -> Stat
     ensures refuses { IsErr (trace_of input.items)
         → (result ≡ Status.Refused) ⊎ (result ≡ Status.Memory) }
     ensures text { result ≡ Status.Done
-        → PutsTextOfBytes input.items (told sink.old) (told sink.new) }
+        → PutsTextOfBytes input.items (taken_bytes sink.old) (taken_bytes sink.new) }
 {
     let Ok(word) = String::from_str(alloc, "run") else {
         return Status::Memory;

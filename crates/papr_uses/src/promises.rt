@@ -1,7 +1,7 @@
 //! What is promised of the runs whose replies the program writes, each promise from the program's
 //! clause and the laws.
 ghost use Rattle.std.specs.Prelude.{◌≡◌};
-ghost use Rattle.trace_io.specs.Memory.{told};
+ghost use Rattle.trace_io.specs.Memory.{taken_bytes};
 ghost use Rattle.papr_uses.specs.Promises.{Promise, Follows, PutsReplies, IsOfThreads, IsOfOneThread, StoresShow, ResizesKeep, EachAccessLands, EachDeviceLands, NoneIsHardware, CachesAreRight, MasksAreRight, ZeroMasksAreSilent, OneProcessorHasOneRun, RefusalsLeave, TextTellsRun, NoPutIsBusy};
 
 use history_check::{at_most_one, good_runs_are_good};
@@ -27,7 +27,7 @@ fn run_threads<R: Threads + Wait + Sync>(
     sink: &mut SteadySink,
 ) -> Status
     ensures { result ≡ Status.Done
-        → PutsReplies IsOfThreads input.items (told sink.old) (told sink.new) }
+        → PutsReplies IsOfThreads input.items (taken_bytes sink.old) (taken_bytes sink.new) }
 {
     let Ok(word) = String::from_str(alloc, "par") else {
         return Status::Memory;
@@ -39,7 +39,7 @@ fn run_threads<R: Threads + Wait + Sync>(
 /// What the program answers to `run` over this input.
 fn run_serially(alloc: Global, input: Vec<u8>, sink: &mut SteadySink) -> Status
     ensures { result ≡ Status.Done
-        → PutsReplies IsOfOneThread input.items (told sink.old) (told sink.new) }
+        → PutsReplies IsOfOneThread input.items (taken_bytes sink.old) (taken_bytes sink.new) }
 {
     let Ok(word) = String::from_str(alloc, "run") else {
         return Status::Memory;
@@ -67,7 +67,7 @@ pub fn keep_promise<P: KeptPromise, R: Threads + Wait + Sync>(
     sink: &mut SteadySink,
 ) -> Status
     ensures { result ≡ Status.Done
-        → PutsReplies P.promise input.items (told sink.old) (told sink.new) }
+        → PutsReplies P.promise input.items (taken_bytes sink.old) (taken_bytes sink.new) }
 {
     P::follows();
     run_threads(rt, alloc, input, sink)
@@ -193,7 +193,7 @@ impl KeptPromise for Texts {
 /// Under `run` no H_PUT_TCE answers H_BUSY.
 pub fn no_put_is_busy(alloc: Global, input: Vec<u8>, sink: &mut SteadySink) -> Status
     ensures { result ≡ Status.Done
-        → PutsReplies NoPutIsBusy input.items (told sink.old) (told sink.new) }
+        → PutsReplies NoPutIsBusy input.items (taken_bytes sink.old) (taken_bytes sink.new) }
 {
     run_serially(alloc, input, sink)
 }

@@ -5,7 +5,6 @@ use Rattle.std.specs.Option.{option_and_then, option_map_or}
 use Rattle.std.specs.List.{range_with_len, AllByRecursion}
 use Rattle.std.proofs.lemmas.Bool.{cases_Bool}
 use Rattle.std.proofs.lemmas.Nat.{pow-add}
-use Rattle.std.proofs.lemmas.List.FromFn.{get_or-map-range_with_len, length-map-range_with_len}
 use Rattle.power_addr.specs.Pages.{VirtualPage}
 use Rattle.hpte_fields.specs.Fields.{is_bolted, is_secondary}
 use Rattle.hpt_hash.specs.Hash.{group_of}
@@ -18,15 +17,19 @@ use Rattle.power_addr.proofs.SamePages.{page_self}
 use Rattle.hpt_walk.specs.Laws.{IsEntryState}
 use Rattle.hpt_walk.specs.Translations.{page_in}
 use Rattle.hpt_walk.proofs.Finding.{is_this, paired-in, this_is, state_of}
-use Rattle.hpt_resize.specs.Rehash.{carried_page, target_of, target_at, is_target, first_with, collision_at, collision_of, entry_at, rehashed_states, at_stamp_0}
+use Rattle.hpt_resize.specs.Rehash.{carried_page, target_of, target_at, first_with, collision_at, collision_of, entry_at, rehashed_states, at_stamp_0}
 use Rattle.hpte_fields.specs.TableSize.{entry_count, least_order}
 use Rattle.hpt_resize.specs.Resize.{Table}
 use Rattle.hpt_resize.proofs.Finds.{found_is, none_found}
 use Rattle.hpt_resize.proofs.Placed.{target_true, target_is, first_is, some_at}
 use Rattle.hpt_resize.proofs.Groups.{carried_is}
 use Rattle.partition.specs.Laws.{Translates, IsSource, PairsCarriedPages}
+use Rattle.hpt_resize.proofs.Rehashed.{rehashed_at, rehashed-length}
+use Rattle.basics.specs.Words.{is_number}
 
 -- ---- the page of a state
+-- The state is valid, and its doublewords are those of an entry of the page at this index in a
+-- table of this order.
 pub record IsOfPage (order entry : ℕ) (s : State) (page : VirtualPage) : Type 0 where
   pub valid : s.valid ≡ true
   pub found : page_at order entry s.dword0 s.dword1 ≡ Some page
@@ -141,7 +144,7 @@ no_two from to states none j k target before inside one two =
     meets None found fails =
         let same : 0 + j ≡ j = omega arith in
         let miss =
-        none_found (λ m. is_target target (target_at from to states m)) 0 k j found before
+        none_found (λ m. is_number target (target_at from to states m)) 0 k j found before
         in
         let hit = target_is target (target_at from to states (0 + j))
         (ap (target_at from to states) same ∙ one) in
@@ -165,21 +168,6 @@ no_two from to states none j k target before inside one two =
         (found_is (λ n. is_some (collision_at from to states n)) 0 (length states) m
         searched).passes
         (sym (ap (option_and_then (collision_at from to states)) searched) ∙ none)
-
--- ---- the new table
-new_long :
-    (from to : ℕ) (states : List State) → length (rehashed_states from to states) ≡ entry_count to
-unfolding rehashed_states
-new_long from to states = length-map-range_with_len (entry_at from to states) 0 (entry_count to)
-
-new_at :
-    (from to : ℕ) (states : List State) (target : ℕ)
-    → target < entry_count to
-    → state_at (rehashed_states from to states) target ≡ entry_at from to states target
-unfolding rehashed_states
-new_at from to states target below =
-    get_or-map-range_with_len (entry_at from to states) 0 (entry_count to) target target
-    (empty_state 0) below (omega arith)
 
 -- What an entry of the new table was.
 record CameFrom (from to : ℕ) (states : List State) (target : ℕ) (s : State) : Type 0 where
@@ -209,7 +197,7 @@ came_from from to states target valid =
           absurd (cc)
       at (Some k) found =
           let here =
-          found_is (λ m. is_target target (target_at from to states m)) 0 (length states) k
+          found_is (λ m. is_number target (target_at from to states m)) 0 (length states) k
           found in
           let below : k < 0 + length states = here.below in
           record {
@@ -238,6 +226,7 @@ goes_there from to states entry target none inside goes =
     option_map_or (λ (m : ℕ). at_stamp_0 (state_at states m)) o (empty_state 0)) first
 
 -- ---- the law for a rehash
+-- The table of this order, at this place, of this number and with these states.
 abbrev pub table_with : ℕ → ℕ → ℕ → List State → Table
 table_with order place number states =
     record { order = order; place = place; number = number; states = states }
@@ -274,7 +263,7 @@ rehash_keeps old to place number low states none = record {
   kept = λ page target source. stands page target source;
   in_table =
       λ page target source.
-      let long = new_long old.order to old.states in
+      let long = rehashed-length old.order to old.states in
       let below = in_new_table page to target _ low source.group in
       omega arith;
 } where
@@ -283,7 +272,7 @@ rehash_keeps old to place number low states none = record {
       → state_at (rehashed_states old.order to old.states) target
       ≡ at_stamp_0 (state_at old.states source.entry)
   stands page target source =
-      new_at old.order to old.states target (in_new_table page to target _ low source.group)
+      rehashed_at old.order to old.states target (in_new_table page to target _ low source.group)
       ∙ goes_there old.order to old.states source.entry target none source.in_table
       (source_at old to page target source)
 
@@ -311,8 +300,8 @@ rehash_keeps old to place number low states none = record {
       target
       → IsSource old to page target
   came page target inside is =
-      let long = new_long old.order to old.states in
-      let read = new_at old.order to old.states target (omega arith) in
+      let long = rehashed-length old.order to old.states in
+      let read = rehashed_at old.order to old.states target (omega arith) in
       let here = translates_in
       (table_with to place number (rehashed_states old.order to old.states)) page target inside
       is in

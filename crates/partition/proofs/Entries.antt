@@ -1,5 +1,5 @@
 -- The entries of an opening table, each in its place.
-use Rattle.std.proofs.Common.{◌≡◌, ◌≢◌, ℕ, zero, suc, ◌+◌, ◌-◌, ◌*◌, ◌%◌, ◌^◌, ◌<◌, ◌≤◌, List, [], ◌∷◌, ◌++◌, length, get_or, set, take, replicate, inl, inr, ◌⊎◌, subst, ap, sym, refl, ◌∙◌, add-one, arith}
+use Rattle.std.proofs.Common.{◌≡◌, ◌≢◌, ℕ, suc, ◌+◌, ◌-◌, ◌*◌, ◌%◌, ◌^◌, ◌<◌, ◌≤◌, List, [], ◌∷◌, ◌++◌, length, get_or, set, take, replicate, inl, inr, ◌⊎◌, subst, ap, sym, refl, ◌∙◌, add-one, arith}
 use Rattle.std.proofs.Math.Seq.{take-suc}
 use Rattle.std.proofs.Math.Pow.{pow_mono}
 use Rattle.std.proofs.Math.Nat.{mod-eq_of_lt}
@@ -15,14 +15,7 @@ use Rattle.entry_model.specs.Reply.{entered_state}
 use Rattle.entry_model.specs.Run.{state_at}
 use Rattle.hpt_resize.specs.TableMemory.{empty_states, with_entries}
 use Rattle.hpt_resize.proofs.OpeningStates.{with_entry, entries-more, entries-other, opening-length}
-
-pub each_map :
-    {A : Type 0} (P Q : A → Type 0) (xs : List A)
-    → ((x : A) → P x → Q x)
-    → AllByRecursion P xs
-    → AllByRecursion Q xs
-each_map P Q [] f h = tt
-each_map P Q (x ∷ xs) f h = (f x h.0, each_map P Q xs f h.1)
+use Rattle.basics.proofs.Each.{each_within, each_map}
 
 -- Each index is one of the table's.
 abbrev pub AreInTable : ℕ → List ImageEntry → Type 0
@@ -63,16 +56,6 @@ empty_at order index = at (cases_lt index (entry_count order)) where
       get_or_past (replicate (entry_count order) (empty_state 0)) index (empty_state 0)
       (omega (arith, length-replicate (entry_count order) (empty_state 0)))
 
--- ---- along the loop that puts them in
-each_at :
-    {A : Type 0} (P : A → Type 0) (xs : List A) (i : ℕ) (d : A)
-    → i < length xs
-    → AllByRecursion P xs
-    → P (get_or xs i d)
-each_at P [] i d inside h = absurd (omega arith)
-each_at P (x ∷ xs) zero d inside h = h.0
-each_at P (x ∷ xs) (suc i) d inside h = each_at P xs i d (omega arith) h.1
-
 -- The next entry's index is one of the table's.
 pub next_inside :
     (order : ℕ) (grants : List Grant) (states : List State) (es some : List ImageEntry) (i : ℕ)
@@ -82,8 +65,9 @@ pub next_inside :
     → states ≡ with_entries (empty_states order) some
     → (get_or es i d).index < length states
 next_inside order grants states es some i d is inside so_far =
-    let entry : IsOpeningEntry order grants (get_or es i d) = each_at (IsOpeningEntry order grants)
-    es i d inside is.each in
+    let entry :
+    IsOpeningEntry order grants (get_or es i d) = each_within (IsOpeningEntry order grants)
+    es i d is.each inside in
     subst (λ n. (get_or es i d).index < n) (sym (ap length so_far ∙ opening-length order some))
     entry.in_table
 

@@ -1,6 +1,6 @@
 -- The opening table has a place in the pool of an accepted configuration.
 use Rattle.std.specs.Prelude.{unwrap_or}
-use Rattle.std.proofs.Common.{◌≡◌, ℕ, ◌+◌, ◌-◌, ◌*◌, ◌^◌, ◌≤◌, true, false, List, length, Contains, Option, Some, None, Result, Ok, Err, IfOk, IfSome, MatchOption, refl, sym, ap, ◌∙◌, subst, arith}
+use Rattle.std.proofs.Common.{◌≡◌, ℕ, ◌+◌, ◌-◌, ◌*◌, ◌^◌, ◌≤◌, true, false, List, length, Contains, Option, Some, None, IfSome, MatchOption, refl, sym, ap, ◌∙◌, subst, arith}
 use Rattle.std.specs.Option.{IsSome}
 use Rattle.std.proofs.lemmas.Nat.{pow_pos}
 use Rattle.hpt_pool.specs.Pool.{PoolState, IsSound, IsLowest, FitsNowhere, block_at, fits, lowest_place, no_blocks, with_block}
@@ -69,6 +69,8 @@ pub beside :
 beside pool granted base order is first second = cc
 
 -- ---- the partition
+-- The partition with this pool, these grants, and a first table at this place with these states is
+-- the opening one of the configuration, and has what partitions have at all times.
 pub record IsOpened (config : Configuration) (new : PoolState) (place : ℕ) (states : List State)
     (granted : GrantedMemory) :
     Type 0 where
@@ -151,17 +153,6 @@ is_opened config pool new (Some other) place states granted low within high same
     }
 
 -- ---- for callers
-pub if_ok :
-    {T E : Type 0} (P Q : T → Type 0) (r : Result T E) → ((x : T) → P x → Q x) → IfOk r P → IfOk r Q
-if_ok P Q (Ok x) step is = step x is
-if_ok P Q (Err e) step is = is
-
-pub opened_order :
-    (config : Configuration) (partition : PartitionState)
-    → partition ≡ opening_partition config
-    → partition.memory.table.order ≡ config.order
-unfolding opening_partition opening_memory
-opened_order config partition is = ap (λ (p : PartitionState). p.memory.table.order) is
 
 pub opened_number :
     (config : Configuration) (partition : PartitionState)

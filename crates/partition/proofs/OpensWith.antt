@@ -16,8 +16,9 @@ use Rattle.hpt_resize.proofs.OpeningStates.{entries-other, opening-length}
 use Rattle.partition.specs.Laws.{IsOpenedAt, OpensWithEntries}
 use Rattle.partition.specs.PartitionState.{opening_partition}
 use Rattle.partition.proofs.Bits.{put_back}
-use Rattle.partition.proofs.Entries.{AreInTable, each_map, each_entered, empty_at}
+use Rattle.partition.proofs.Entries.{AreInTable, each_entered, empty_at}
 use Rattle.std.specs.Int.Bits.{and_zero_r}
+use Rattle.basics.proofs.Each.{each_map}
 
 -- Words that H_ENTER would store are doublewords.
 second_low : (dword1 : ℕ) → bit_and dword1 0xBFFFFFFFFFFFFFFF ≡ dword1 → dword1 < 2 ^ 64

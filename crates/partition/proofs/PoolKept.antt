@@ -8,6 +8,7 @@ use Rattle.hpt_resize.specs.Resize.{PrepareOutcome, is_prepare_request, is_pendi
 use Rattle.hpt_resize.proofs.Holding.{lowest_fits}
 use Rattle.hpte_fields.specs.TableSize.{least_order}
 
+-- The pool is as large as before and begins at the same address, and it is sound if it was.
 pub record KeepsPool (old new : PoolState) : Type 0 where
   pub base : new.base ≡ old.base
   pub size : new.order ≡ old.order

@@ -20,6 +20,7 @@ use Rattle.hpt_resize.specs.TableMemory.{TableMemory, prepare_result, commit_res
 use Rattle.partition.specs.PartitionState.{PartitionState, IsPartition, CountsTables, block_of, reply_of_code}
 use Rattle.partition.proofs.PoolKept.{KeepsPool, same_pool, prepared_pool}
 
+-- The code that a resize call gives, and the table memory that it leaves.
 abbrev pub answer_at : Rc → TableMemory → Rc × TableMemory
 answer_at rc memory = (rc, memory)
 
@@ -53,6 +54,8 @@ pub memory_or : (m n : ℕ) → m ≡ n → ((m == 0) || (m == n)) ≡ true
 memory_or m n same = or_right (m == 0) (m == n) (eq-eqb m n same)
 
 -- ---- prepare
+-- The partition of these parts: the highest order, the pool, the pending and the current table, and
+-- the memory that is granted.
 abbrev pub partition : ℕ → PoolState → Option PendingTable → Table → GrantedMemory → PartitionState
 partition limit pool pending table granted =
     record {

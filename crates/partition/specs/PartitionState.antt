@@ -7,7 +7,7 @@ use Rattle.entry_model.specs.Trial.{reply_by, plan_of_code}
 use Rattle.entry_model.specs.declared.hreply.HReply.{HReply}
 use Rattle.papr_codes.specs.declared.codes.Rc.{Rc}
 use Rattle.papr_codes.specs.declared.codes.Rc.TheVariants.{Success}
-use Rattle.hpte_fields.specs.TableSize.{entry_count, greatest_order, least_order, IsTableOrder}
+use Rattle.hpte_fields.specs.TableSize.{entry_count, IsTableOrder}
 use Rattle.hpt_resize.specs.Resize.{IsHeld, IsElsewhere, Table}
 use Rattle.hpt_resize.specs.TableMemory.{TableMemory, opening_memory}
 

@@ -6,6 +6,7 @@ use Rattle.hpt_pool.specs.Pool.{Block, PoolState, block_at, overlap, with_block,
 use Rattle.hpt_pool.proofs.Kept.{take_keeps}
 use Rattle.hpt_pool.proofs.Placing.{fits_in}
 
+-- At each of these places a leaf of 2 ^ 18 bytes is taken.
 abbrev pub AreHeld : PoolState → List ℕ → Type 0
 AreHeld pool_state places = All (λ place. Contains pool_state.taken (block_at place 18)) places
 

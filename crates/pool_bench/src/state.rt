@@ -1,5 +1,6 @@
 ghost use Rattle.std.specs.Prelude.{◌≢◌, ◌≤◌, All, AllPairs, Contains, IfOk, OnOk};
 ghost use Rattle.hpt_pool.specs.Pool.{block_at};
+ghost use Rattle.pool_range.specs.Ranges.{least_pool_order};
 
 use hpt_pool::Pool;
 use rand_core::{Rng, SeedableRng};
@@ -105,7 +106,7 @@ pub struct Seen {
 
 /// So many times takes a block and gives it back. Its order is drawn from a leaf's to `largest`.
 pub fn take_and_give(pool: &mut Pool, largest: u8, calls: u32) -> Seen
-    requires least { 18 ≤ largest }
+    requires least { least_pool_order ≤ largest }
     requires most { largest ≤ 46 }
 {
     let orders = u64::from(largest - LEAF_ORDER + 1);

@@ -1,5 +1,5 @@
 ghost use Rattle.std.specs.Prelude.{◌≡◌, ◌≤◌, ◌^◌, Some, None, IfOk, MatchResult};
-ghost use Rattle.pool_range.specs.Ranges.{IsPoolRange, range_refusal};
+ghost use Rattle.pool_range.specs.Ranges.{IsPoolRange, range_refusal, greatest_pool_order};
 
 /// The end of the guest's logical addresses and of machine addresses: 2^60.
 pub const ADDRESS_END: u64 = 1 << 60;
@@ -66,9 +66,9 @@ impl PoolRange {
 
 // How many bytes a range has.
 fn size_of(order: u64) -> u64
-    requires { order ≤ 34 }
+    requires { order ≤ greatest_pool_order }
     ensures size { result ≡ 2 ^ order }
-    ensures most { result ≤ 2 ^ 34 }
+    ensures most { result ≤ 2 ^ greatest_pool_order }
 {
     1 << order
 }

@@ -1,8 +1,8 @@
 -- What the ranges of a page's parts say: the seven kinds of page, and that an address has 78 bits.
 use Rattle.std.specs.Prelude.{IsTrue, ◌==◌, ◌||◌, ◌&&◌}
-use Rattle.std.proofs.Common.{◌≡◌, ℕ, ◌+◌, ◌-◌, ◌*◌, ◌/◌, ◌%◌, ◌^◌, ◌<◌, Bool, true, false, arith, sym, refl, subst, inl, inr, ◌⊎◌, nat_lt, Some, None}
+use Rattle.std.proofs.Common.{◌≡◌, ℕ, ◌+◌, ◌-◌, ◌*◌, ◌/◌, ◌%◌, ◌^◌, ◌<◌, Bool, true, false, arith, sym, refl, subst, inl, inr, ◌⊎◌, Some, None}
 use Rattle.std.proofs.lemmas.Bool.{or_cases, eqb-true, false≢true, ltb-true, lt-ltb, cases_Bool}
-use Rattle.power_addr.specs.Pages.{VirtualPage, IsPage, is_page, is_vsid, offset_bits, vsid_bits, is_base_shift, virtual_address, page_at_address, page_of_address}
+use Rattle.power_addr.specs.Pages.{VirtualPage, IsPage, is_vsid, offset_bits, vsid_bits, is_base_shift, virtual_address, page_at_address, page_of_address}
 
 -- The bits of a segment's offset, and a base page size that fits.
 pub data IsKind : ℕ → ℕ → Type 0 where
@@ -48,24 +48,6 @@ pub both_true : (a b : Bool) → (a && b) ≡ true → (a ≡ true) × (b ≡ tr
 both_true true true h = (refl, refl)
 both_true true false h = absurd (false≢true h)
 both_true false b h = absurd (false≢true h)
-
--- The test says what the record says.
-pub IsPage-from_test : (p : VirtualPage) → IsTrue (is_page p) → IsPage p
-IsPage-from_test p h =
-    let parts = both_true (is_vsid p.one_tb p.vsid && is_base_shift p.one_tb p.shift) _ h in
-    let segment = both_true (is_vsid p.one_tb p.vsid) _ parts.0 in
-    record {
-      vsid = ltb-true p.vsid (2 ^ vsid_bits p.one_tb) segment.0;
-      shift = segment.1;
-      index = ltb-true p.index (2 ^ (offset_bits p.one_tb - p.shift)) parts.1;
-    }
-
-pub is_page-true : (p : VirtualPage) → IsPage p → is_page p ≡ true
-is_page-true p is =
-    let vsid : is_vsid p.one_tb p.vsid ≡ true = lt-ltb p.vsid (2 ^ vsid_bits p.one_tb) is.vsid in
-    let index : nat_lt p.index (2 ^ (offset_bits p.one_tb - p.shift)) ≡ true = lt-ltb p.index
-    (2 ^ (offset_bits p.one_tb - p.shift)) is.index in
-    rw (vsid, is.shift, index) refl
 
 -- A segment's number and a page's index stay within the bits of an address.
 in_address :

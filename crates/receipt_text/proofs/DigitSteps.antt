@@ -9,6 +9,7 @@ use Rattle.std.proofs.lemmas.Nat.{div-mul-add, mod-mul-add, div-add-mod'}
 use Rattle.std.proofs.lemmas.Str.{digit_value-digit_char}
 use Rattle.std.proofs.Math.Nat.{div-eq_of_lt, mod-lt, mod-eq_of_lt, pow-zero}
 use Rattle.number_text.proofs.NumberSteps.{digits_onto-append, fewer}
+use Rattle.basics.proofs.Each.{each_within}
 
 -- ---- one digit
 pub glyph_value : (d : ℕ) → d < 16 → digit_value (digit_glyph false d) ≡ d
@@ -119,6 +120,7 @@ unfolding digits
 digits_first base n rest some high more small = onto_first base 63 n [] rest some high more small
 
 -- ---- each digit
+-- The byte is the lower-case digit of a value below the base.
 pub record IsDigit (base c : ℕ) : Type 0 where
   pub value : ℕ
   pub low : value < base
@@ -139,15 +141,6 @@ onto_each base some (suc k) n acc h =
     (AllByRecursion (IsDigit base)) (λ e. more)
     (λ e. onto_each base some k (n / base) (digit_glyph false (n % base) ∷ acc) more)
 
-each_at :
-    {A : Type 0} (P : A → Type 0) (xs : List A) (i : ℕ) (d : A)
-    → i < length xs
-    → AllByRecursion P xs
-    → P (get_or xs i d)
-each_at P [] i d within h = absurd (omega arith)
-each_at P (x ∷ xs) zero d within h = h.0
-each_at P (x ∷ xs) (suc i) d within h = each_at P xs i d (omega arith) h.1
-
 pub digits_each :
     (base n i : ℕ)
     → 0 < base
@@ -155,5 +148,5 @@ pub digits_each :
     → IsDigit base (get_or (digits base false n) i 0)
 unfolding digits
 digits_each base n i some within =
-    each_at (IsDigit base) (digits_onto 64 base false n []) i 0 within
-    (onto_each base some 64 n [] tt)
+    each_within (IsDigit base) (digits_onto 64 base false n []) i 0
+    (onto_each base some 64 n [] tt) within

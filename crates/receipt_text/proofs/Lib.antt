@@ -4,5 +4,5 @@ mod MarkRows
 pub mod MarkTexts
 pub mod ReadBack
 mod ReadNumbers
-mod ReceiptRows
+pub mod ReceiptRows
 mod ReceiptSteps

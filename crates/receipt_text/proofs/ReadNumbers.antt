@@ -17,14 +17,12 @@ fits base k n low wide small =
     omega (arith, more)
 
 -- ---- what was read
+-- The first i bytes of the word have this value. If i isn't 0 they are the digits that spell it,
+-- and it is above 0 in a word of several bytes.
 pub record AreReadTo (base : ℕ) (word : List ℕ) (i value : ℕ) : Type 0 where
   pub worth : value ≡ digits_value base (take i word)
   pub some : 0 < i → 1 < length word → 0 < value
   pub written : 0 < i → digits base false value ≡ take i word
-
-pub read_none : (base : ℕ) (word : List ℕ) → AreReadTo base word 0 0
-read_none base word =
-    record { worth = refl; some = λ h. absurd (omega arith); written = λ h. absurd (omega arith) }
 
 pub read_more :
     (base : ℕ) (word : List ℕ) (i v d : ℕ)

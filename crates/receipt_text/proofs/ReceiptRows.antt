@@ -14,7 +14,7 @@ use Rattle.entry_model.specs.declared.operation.Op.TheVariants as ops
 use Rattle.authority_mask.specs.Authority.{no_masks, row_says, key_rows}
 
 -- An entry of the page of VSID 1 and index 1, read-only, with C and without R.
-used : State
+unfoldable pub used : State
 used =
     record {
       valid = true;
@@ -26,13 +26,13 @@ used =
     }
 
 -- The same with R, at the last stamp.
-worn : State
+unfoldable pub worn : State
 worn = record used { referenced = true; stamp = 0xFFFFFFFF }
 
 any : Test
 any = record { avpn = None; andcond = None }
 
-reached : ℕ → Op
+unfoldable pub reached : ℕ → Op
 reached tag = ops.Access tag 12 false false Store no_masks
 
 -- Each answer, with the entry in hexadecimal digits, the stamp in decimal ones, and R as 2 and C as

@@ -10,9 +10,10 @@ use Rattle.entry_model.specs.declared.operation.Answer.{Answer}
 use Rattle.entry_model.specs.declared.operation.Answer.TheVariants.{Entered, Taken, Removed, Protected, Was, Words, NotFound, NoMatch, Denied, Masked, At, Worn}
 use Rattle.entry_model.specs.declared.receipt.Receipt.{Receipt}
 use Rattle.number_text.specs.Numbers.{hex}
-use Rattle.receipt_text.specs.Receipts.{answer_word, bits_digit, receipt_text}
+use Rattle.receipt_text.specs.Receipts.{answer_word, receipt_text}
 use Rattle.number_text.proofs.NumberSteps.{decimal_IsAscii, hex_IsAscii}
 use lib.Ieee.Fits.{and_l, and_r}
+use Rattle.entry_model.specs.State.{bits_number}
 
 abbrev are_ascii : List ℕ → Bool
 are_ascii [] = true
@@ -42,13 +43,13 @@ pub IsAscii-receipt_text : (r : Receipt) → IsAscii (receipt_text r)
 IsAscii-receipt_text r =
     let point = IsAscii-from_test (codes ".") tt in
     let word : List ℕ = codes "." ++ answer_word r.answer in
-    let bits : List ℕ = codes "." ++ (decimal (bits_digit r.before) ++ word) in
+    let bits : List ℕ = codes "." ++ (decimal (bits_number r.before) ++ word) in
     let rest : List ℕ = codes "." ++ (decimal r.before.stamp ++ bits) in
     let of_word : IsAscii word = IsAscii-append (codes ".") (answer_word r.answer) point
     (IsAscii-answer_word r.answer) in
-    let of_digit : IsAscii (decimal (bits_digit r.before) ++ word) = IsAscii-append
-    (decimal (bits_digit r.before)) word (decimal_IsAscii (bits_digit r.before)) of_word in
-    let of_bits : IsAscii bits = IsAscii-append (codes ".") (decimal (bits_digit r.before) ++ word)
+    let of_digit : IsAscii (decimal (bits_number r.before) ++ word) = IsAscii-append
+    (decimal (bits_number r.before)) word (decimal_IsAscii (bits_number r.before)) of_word in
+    let of_bits : IsAscii bits = IsAscii-append (codes ".") (decimal (bits_number r.before) ++ word)
     point of_digit in
     let of_stamp : IsAscii (decimal r.before.stamp ++ bits) = IsAscii-append
     (decimal r.before.stamp) bits (decimal_IsAscii r.before.stamp) of_bits in

@@ -1,8 +1,8 @@
 -- The text of receipts: what a reply's line shows of each.
-use Rattle.std.specs.Prelude.{ℕ, ◌+◌, List, [], ◌∷◌, ◌++◌, if◌then◌else◌, codes}
+use Rattle.std.specs.Prelude.{ℕ, ◌+◌, List, [], ◌∷◌, ◌++◌, codes}
 use Rattle.std.specs.List.{flat_map}
 use Rattle.std.specs.Fmt.{decimal}
-use Rattle.entry_model.specs.State.{State}
+use Rattle.entry_model.specs.State.{bits_number}
 use Rattle.entry_model.specs.declared.operation.Answer.{Answer}
 use Rattle.entry_model.specs.declared.operation.Answer.TheVariants.{Entered, Taken, Removed, Protected, Was, Words, NotFound, NoMatch, Denied, Masked, At, Worn}
 use Rattle.entry_model.specs.declared.receipt.Receipt.{Receipt}
@@ -24,10 +24,6 @@ answer_word Masked = codes "masked"
 answer_word At = codes "at"
 answer_word Worn = codes "worn"
 
--- 2 for R plus 1 for C.
-abbrev pub bits_digit : State → ℕ
-bits_digit s = (if s.referenced then 2 else 0) + (if s.changed then 1 else 0)
-
 -- ENTRY.STAMP.BITS.ANSWER
 abbrev pub mark_word : Mark → List ℕ
 mark_word m =
@@ -48,7 +44,7 @@ abbrev pub mark_of : Receipt → Mark
 mark_of r = record {
   entry = r.entry;
   stamp = r.before.stamp;
-  bits = bits_digit r.before;
+  bits = bits_number r.before;
   answer = r.answer;
 }
 

@@ -2,7 +2,8 @@ ghost use Rattle.std.specs.Prelude.{◌≡◌, ◌≤◌, ◌+◌, ◌*◌, ◌+
 ghost use Rattle.std.specs.Fmt.{decimal};
 ghost use Rattle.std.specs.Io.{StartsWith};
 ghost use Rattle.number_text.specs.Room.{TakesAtMost};
-ghost use Rattle.receipt_text.specs.Receipts.{answer_word, bits_digit, receipt_text, receipts_text};
+ghost use Rattle.receipt_text.specs.Receipts.{answer_word, receipt_text, receipts_text};
+ghost use Rattle.entry_model.specs.State.{bits_number};
 
 use entry_model::{Answer, EntryState, Receipt};
 use itoa::write_digits;
@@ -36,7 +37,7 @@ pub fn word_of(answer: Answer) -> &'static str
 /// R and C before the operation, as a digit between two points.
 #[tactic(auto, using(std::proofs::lemmas::Fmt::decimal_digit))]
 fn bits(state: &EntryState) -> &'static str
-    ensures value { result.now ≡ codes "." ++ decimal (bits_digit state.now) ++ codes "." }
+    ensures value { result.now ≡ codes "." ++ decimal (bits_number state.now) ++ codes "." }
     ensures short { length result.now ≡ 3 }
 {
     match (state.referenced, state.changed) {

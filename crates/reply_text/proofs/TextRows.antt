@@ -1,14 +1,13 @@
 -- The texts of made replies: each form of a line once.
 use Rattle.std.specs.Prelude.{codes, map}
-use Rattle.std.proofs.Common.{◌≡◌, ℕ, List, [], ◌∷◌, true, false, Some, None, refl}
+use Rattle.std.proofs.Common.{◌≡◌, List, [], ◌∷◌, true, false, Some, None, refl}
 use Rattle.std.specs.List.{flat_map}
 use Rattle.std.specs.Fmt.{digits}
 use Rattle.papr_codes.specs.Hcalls.{hcall_of, row_of}
 use Rattle.papr_codes.specs.ReturnCodes.{rc_code}
 use Rattle.storage_prot.specs.declared.want.Want.TheVariants.{Load, Store, Fetch}
 use Rattle.storage_prot.specs.Protection.{permission, rows}
-use Rattle.entry_model.specs.State.{State, empty_state}
-use Rattle.entry_model.specs.declared.operation.Op.{Op}
+use Rattle.entry_model.specs.State.{empty_state}
 use Rattle.entry_model.specs.declared.access_reply.By.TheVariants.{Hit, Walk}
 use Rattle.entry_model.specs.declared.access_reply.Outcome.TheVariants.{At, Denied, Masked, NoPage, NoSegment, Ungranted}
 use Rattle.entry_model.specs.declared.device_reply.DeviceOutcome.TheVariants as devices
@@ -23,26 +22,8 @@ use Rattle.reply_text.specs.Text.{text_from, head_text, code_text, entry_text, d
 use Rattle.papr_codes.specs.declared.codes.Rc.TheVariants as rc
 use Rattle.entry_model.specs.declared.operation.Op.TheVariants as ops
 use Rattle.trace_reply.specs.declared.reply.Reply.TheVariants as replies
-use Rattle.authority_mask.specs.Authority.{no_masks, row_says, key_rows}
-
--- An entry of the page of VSID 1 and index 1, read-only, with C and without R.
-used : State
-used =
-    record {
-      valid = true;
-      dword0 = 0x1001;
-      dword1 = 0x3013;
-      referenced = false;
-      changed = true;
-      stamp = 31;
-    }
-
--- The same with R, at the last stamp.
-worn : State
-worn = record used { referenced = true; stamp = 0xFFFFFFFF }
-
-reached : ℕ → Op
-reached tag = ops.Access tag 12 false false Store no_masks
+use Rattle.authority_mask.specs.Authority.{row_says, key_rows}
+use Rattle.receipt_text.proofs.ReceiptRows.{used, reached, worn}
 
 -- ---- codes
 each_code :

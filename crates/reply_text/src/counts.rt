@@ -1,11 +1,11 @@
 ghost use Rattle.std.specs.Prelude.{◌≡◌, ◌+◌, ◌^◌, ◌<◌, if◌then◌else◌};
 ghost use Rattle.reply_text.specs.declared.counted.Counted.{Counted};
-ghost use Rattle.trace_reply.specs.Places.{reply_in};
+ghost use Rattle.trace_reply.specs.Slots.{reply_in};
 ghost use Rattle.reply_text.specs.Summary.{count_of, counts_kind, is_counted};
 
 use crate::counted::Counted;
 use crate::kind::ReplyKind;
-use trace_reply::{Reply, ReplyPlace};
+use trace_reply::{Reply, ReplySlot};
 
 /// The counts of a summary, raised reply by reply as a trace runs.
 #[derive(Clone, Copy, PartialEq, Eq, Debug)]
@@ -48,14 +48,14 @@ impl Counts {
         self.raise(ReplyKind::of(reply));
     }
 
-    /// Counts the reply that has the place.
-    pub fn add_place(&mut self, place: &ReplyPlace)
+    /// Counts the reply in the slot.
+    pub fn add_slot(&mut self, slot: &ReplySlot)
         requires { (counted : Counted) → count_of self.old counted + 1 < 2 ^ 64 }
         ensures { (counted : Counted) → count_of self.new counted
             ≡ count_of self.old counted
-            + (if is_counted counted (reply_in place.now) then 1 else 0) }
+            + (if is_counted counted (reply_in slot.now) then 1 else 0) }
     {
-        self.raise(ReplyKind::in_place(place));
+        self.raise(ReplyKind::in_slot(slot));
     }
 
     /// Counts one more reply of this kind.

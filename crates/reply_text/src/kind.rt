@@ -1,10 +1,10 @@
 ghost use Rattle.std.specs.Prelude.{◌≡◌};
 ghost use Rattle.reply_text.specs.Summary.{kind_of};
-ghost use Rattle.trace_reply.specs.Places.{reply_in};
+ghost use Rattle.trace_reply.specs.Slots.{reply_in};
 
 use entry_model::{By, Outcome};
 use papr_codes::Rc;
-use trace_reply::{Reply, ReplyEnd, ReplyPlace};
+use trace_reply::{Reply, ReplyEnd, ReplySlot};
 
 /// What a summary looks at in a reply.
 #[derive(Clone, Copy)]
@@ -31,11 +31,11 @@ impl ReplyKind {
         }
     }
 
-    /// The kind of the reply that has the place.
-    pub fn in_place(place: &ReplyPlace) -> ReplyKind
-        ensures { result ≡ kind_of (reply_in place.now) }
+    /// The kind of the reply in the slot.
+    pub fn in_slot(slot: &ReplySlot) -> ReplyKind
+        ensures { result ≡ kind_of (reply_in slot.now) }
     {
-        match &place.end {
+        match &slot.end {
             ReplyEnd::Hcall(registers) => ReplyKind::Call(registers.rc),
             ReplyEnd::Access(end) => ReplyKind::Access(end.outcome, end.by),
             ReplyEnd::Device(_) | ReplyEnd::Segment(_) | ReplyEnd::MaskSet | ReplyEnd::Dump(_) => {

@@ -10,4 +10,4 @@ mod text;
 
 pub use counts::Counts;
 pub use summary::{summary_of, summary_of_counts};
-pub use text::{REPLY_ROOM, put_entry, put_place, put_reply, put_table, text_of};
+pub use text::{REPLY_ROOM, put_entry, put_reply, put_slot, put_table, text_of};

@@ -2,7 +2,7 @@ ghost use Rattle.std.specs.Prelude.{◌≡◌, ◌≤◌, ◌+◌, ◌*◌, ◌+
 ghost use Rattle.std.specs.List.{flat_map};
 ghost use Rattle.std.specs.Io.{StartsWith};
 ghost use Rattle.papr_codes.specs.ReturnCodes.{rc_code};
-ghost use Rattle.trace_reply.specs.Places.{reply_in};
+ghost use Rattle.trace_reply.specs.Slots.{reply_in};
 ghost use Rattle.trace_reply.specs.Replies.{is_dump};
 ghost use Rattle.number_text.specs.Room.{TakesAtMost};
 ghost use Rattle.reply_text.specs.Text.{want_word, mask_word, name_of, head_text, word_text, code_text, hcall_text, outcome_text, way_text, access_text, device_word, device_outcome_text, device_text, verdict_text, entry_text, dump_head, table_text, dump_text, reply_text, text_from};
@@ -16,7 +16,7 @@ use std::alloc::{AllocError, Global};
 use storage_prot::Want;
 use trace_line::{Act, TraceLine};
 use trace_read::Trace;
-use trace_reply::{Replies, Reply, ReplyEnd, ReplyPlace, Shown};
+use trace_reply::{Replies, Reply, ReplyEnd, ReplySlot, Shown};
 
 /// Room for the line of a reply that is no dump. It has at most 746 bytes: 42 as far as the name,
 /// 157 for the code and 8 words, 546 for 16 receipts, and the line's end.
@@ -382,34 +382,34 @@ pub fn put_reply(out: &mut String, line: &TraceLine, reply: &Reply) -> Result<()
     }
 }
 
-/// Appends the text of the reply that has the place, as [`put_reply`] does.
-pub fn put_place(out: &mut String, line: &TraceLine, place: &ReplyPlace) -> Result<(), AllocError>
+/// Appends the text of the reply in the slot, as [`put_reply`] does.
+pub fn put_slot(out: &mut String, line: &TraceLine, slot: &ReplySlot) -> Result<(), AllocError>
     ensures text { OnOk
         result
         (string_bytes out.new
-        ≡ string_bytes out.old ++ reply_text line.now (reply_in place.now)) }
+        ≡ string_bytes out.old ++ reply_text line.now (reply_in slot.now)) }
     ensures kept { OnErr result (StartsWith (string_bytes out.new) (string_bytes out.old)) }
     // Within the room of a reply, the line of one that is no dump is written, in no more than that.
-    ensures fits { is_dump (reply_in place.now) ≡ false
+    ensures fits { is_dump (reply_in slot.now) ≡ false
         → string_len out.old + REPLY_ROOM ≤ string_capacity out.old
         → IsOk result }
-    ensures short { is_dump (reply_in place.now) ≡ false
+    ensures short { is_dump (reply_in slot.now) ≡ false
         → OnOk result (string_len out.new ≤ string_len out.old + REPLY_ROOM) }
     ensures capacity { string_capacity out.old ≤ string_capacity out.new }
 {
     out.reserve(REPLY_ROOM)?;
-    match &place.end {
+    match &slot.end {
         ReplyEnd::Hcall(registers) => {
             put_head(out, line)?;
-            put_hcall(out, registers.rc, &registers.words, &place.receipts)
+            put_hcall(out, registers.rc, &registers.words, &slot.receipts)
         }
         ReplyEnd::Access(end) => {
             put_head(out, line)?;
-            put_access(out, end.outcome, end.by, &place.receipts)
+            put_access(out, end.outcome, end.by, &slot.receipts)
         }
         ReplyEnd::Device(outcome) => {
             put_head(out, line)?;
-            put_device(out, *outcome, &place.receipts)
+            put_device(out, *outcome, &slot.receipts)
         }
         ReplyEnd::Segment(accepted) => {
             put_head(out, line)?;

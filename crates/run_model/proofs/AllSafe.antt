@@ -30,7 +30,7 @@ use Rattle.run_model.specs.Histories.{receipts_by}
 use Rattle.run_model.specs.Quiet.{QuietPart, cut, cut_before}
 use Rattle.run_model.specs.Sections.{Section, made_in, closing, after_quiet, quiet_on, section_of, sections_from, sections_of}
 use Rattle.run_model.specs.Landings.{AccessesLand, IsUnworn}
-use Rattle.run_model.proofs.Each.{each_map, each_front, each_back, each_filter, each_where, filter_length}
+use Rattle.basics.proofs.Each.{each_map, each_front, each_back, each_filter, each_where, filter_length}
 use Rattle.run_model.proofs.LineReceipts.{each_receipt, weight_by_lines}
 use Rattle.run_model.proofs.LinesByProcessor.{Cpus, InFileOrder, file_lines, file_listed}
 use Rattle.run_model.proofs.SectionGood.{each_regrouped}
@@ -46,9 +46,12 @@ use Rattle.run_model.proofs.SafeReplies.{IsTameLine, line_tame}
 abbrev pub IsLine : ℕ → RepliedLine → Type 0
 IsLine cpus t = (t.line.cpu < cpus) × IsOfKind t.line.act t.reply
 
+-- Each line's reply enters words of granted pages alone, raises few stamps, and is no H_HARDWARE
+-- where the stamps before were low.
 abbrev pub AreTame : GrantedMemory → List RepliedLine → Type 0
 AreTame granted ts = AllByRecursion (λ (t : RepliedLine). IsTameLine granted t.reply) ts
 
+-- None of the replies is H_HARDWARE.
 abbrev pub AreUnworn : List RepliedLine → Type 0
 AreUnworn ts = AllByRecursion (λ (t : RepliedLine). IsUnworn t.reply) ts
 
@@ -166,6 +169,7 @@ abbrev pub InSections : (RepliedLine → Type 0) → List RepliedLine → List Q
 InSections P ts qs =
     AllByRecursion P ts × AllByRecursion (λ (q : QuietPart). P q.0 × AllByRecursion P q.1) qs
 
+-- How many lines the sections have, without the quiet ones between them.
 abbrev pub line_count : List RepliedLine → List QuietPart → ℕ
 line_count ts [] = length ts
 line_count ts (q ∷ qs) = length ts + line_count q.1 qs

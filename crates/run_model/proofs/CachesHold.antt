@@ -37,7 +37,7 @@ use Rattle.trace_reply.specs.Replies.{RepliedLine, receipts_in}
 use Rattle.run_model.specs.Processors.{processor_at, processor_after, processors_after}
 use Rattle.run_model.specs.LineReplies.{IsReplyToAccess}
 use Rattle.run_model.proofs.Undisturbed.{IsUndisturbed}
-use Rattle.run_model.proofs.Each.{each_map, each_set, each_at}
+use Rattle.basics.proofs.Each.{each_map, each_set, each_at}
 use Rattle.entry_model.specs.Reply.{AccessMode}
 use Rattle.entry_model.specs.declared.access_reply.Outcome.TheVariants as outcomes
 use Rattle.trace_line.specs.declared.act.Act.TheVariants as acts
@@ -51,6 +51,7 @@ pub record IsFresh (states : List State) (line : Line) : Type 0 where
   pub in_table : line.entry < length states
   pub holds : Holds line (state_at states line.entry)
 
+-- Each line that the processor has cached is fresh in these states.
 abbrev pub ProcessorFresh : List State → Processor → Type 0
 ProcessorFresh states processor = AllCached (IsFresh states) processor.cache
 

@@ -1,7 +1,7 @@
 -- In a good run a hit is by a line that is current, and a walk goes past a line only where it is
 -- gone.
-use Rattle.std.specs.Prelude.{max, IfSome, MatchBool}
-use Rattle.std.proofs.Common.{◌≡◌, ℕ, ◌+◌, ◌*◌, ◌<◌, ◌≤◌, List, [], ◌∷◌, ◌++◌, Bool, true, false, refl, sym, subst, ◌⊎◌, inl, inr, map, Option, Some, None, eqb, arith}
+use Rattle.std.specs.Prelude.{max, IfSome}
+use Rattle.std.proofs.Common.{◌≡◌, ℕ, ◌+◌, ◌*◌, ◌<◌, ◌≤◌, List, [], ◌∷◌, ◌++◌, true, false, refl, sym, subst, ◌⊎◌, inl, inr, map, Option, Some, None, eqb, arith}
 use Rattle.std.specs.List.{AllByRecursion}
 use Rattle.std.proofs.lemmas.Bool.{cases_Bool, eq-eqb}
 use Rattle.entry_model.specs.State.{State}
@@ -36,16 +36,13 @@ use Rattle.run_model.specs.Histories.{lines_of_processor, Event, made, InOrder, 
 use Rattle.run_model.specs.Sections.{Section, closing, sections_of}
 use Rattle.run_model.specs.GoodRun.{IsGoodRun, IsGoodSection, AreInOrder, EachLineOfProcessor, IsAccessLine, AccessesAreReplied}
 use Rattle.run_model.specs.CachedAccesses.{IsByCurrentLine, UsesLine, line_in, UsesItsCache, AccessesUseCaches}
-use Rattle.run_model.proofs.Each.{each_map}
+use Rattle.basics.proofs.Each.{each_map}
 use Rattle.run_model.proofs.OneProcessor.{first_events, left_high, left_rest, receipts_rest, pair_stamp}
 use Rattle.trace_line.specs.declared.act.Act.TheVariants as acts
 use Rattle.trace_reply.specs.declared.reply.Reply.TheVariants as replies
+use Rattle.basics.proofs.Bools.{no_more}
 
 -- ---- hits
-two : (goes : Bool) (y : Receipt) (ys : List Receipt) → MatchBool goes ⊥ ((y ∷ ys) ≡ []) → ⊥
-two true y ys h = h
-two false y ys h = cc
-
 hit_by_line :
     (context : AccessContext) (seg : Segment) (a : Request) (line : Line) (r : AccessReply)
     (rs : List Receipt)
@@ -61,7 +58,7 @@ hit_by_line context seg a line r (x ∷ []) e h =
     record { receipt = x; only = refl; entry = trial.0.entry; current = current.0 }
 hit_by_line context seg a line r (x ∷ y ∷ ys) e h =
     let trial = subst (λ xs. IsTrial is_no_match (hit_calls seg a line) xs) e h.trial in
-    absurd (two (is_no_match x.answer) y ys trial.1)
+    absurd (no_more (is_no_match x.answer) y ys trial.1)
 
 -- ---- walks past a line
 -- A front beyond the line's pair puts the entry's receipts behind the line.

@@ -24,7 +24,7 @@ use Rattle.run_model.specs.Sections.{Section, closing, after_quiet, quiet_on, se
 use Rattle.run_model.specs.StoreContexts.{StoreContext}
 use Rattle.run_model.specs.Stores.{Store, context_of, opening_stores, is_on_window, is_on}
 use Rattle.run_model.proofs.AllSafe.{InSections, section_joined, cut_out}
-use Rattle.run_model.proofs.Each.{each_map, each_under, each_where}
+use Rattle.basics.proofs.Each.{each_map, each_under, each_where}
 use Rattle.run_model.proofs.StoreLines.{HoldsOn, HoldOn, on_all_stores, opening_has}
 use Rattle.run_model.proofs.TableNamed.{after_window, closed_window}
 
@@ -56,6 +56,7 @@ on_window_act w (acts.Call number args spelt) on = named_call w (hcall_of number
 on_window_act w (acts.Device write liobn ioba) on = tt
 on_window_act w other on = absurd (false≢true on)
 
+-- Each part begins with a quiet line.
 abbrev pub AllQuiet : List QuietPart → Type 0
 AllQuiet qs = AllByRecursion (λ (q : QuietPart). is_quiet q.0.line.act ≡ true) qs
 

@@ -38,7 +38,7 @@ use Rattle.run_model.specs.Stores.{context_of}
 use Rattle.run_model.specs.Sections.{Section, sections_of}
 use Rattle.run_model.specs.GoodRun.{EachLineOfProcessor, CallsAreReplied, IsGoodSection, IsGoodRun}
 use Rattle.run_model.specs.ShownStores.{clears_by, ShowsWhatItClears, ShowsClearedBits, ClearedBitsAreShown}
-use Rattle.run_model.proofs.Each.{each_map, each_both}
+use Rattle.basics.proofs.Each.{each_map, each_both}
 use Rattle.papr_codes.specs.declared.calls.Hcall.TheVariants as calls
 use Rattle.papr_codes.specs.declared.codes.Rc.TheVariants as rc
 use Rattle.entry_model.specs.declared.operation.Answer.TheVariants as answers

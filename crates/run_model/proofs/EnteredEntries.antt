@@ -43,7 +43,7 @@ use Rattle.run_model.specs.Stores.{Store, context_of, states_of, page_table}
 use Rattle.run_model.specs.QuietLines.{run_resize, run_quiet_line}
 use Rattle.run_model.proofs.FirstStore.{first_after}
 use Rattle.run_model.specs.SerialRun.{current_line, result_by_line, result_by_segment, line_result, with_result, run_on, table_after}
-use Rattle.run_model.proofs.Each.{each_map, each_at, each_set}
+use Rattle.basics.proofs.Each.{each_map, each_at, each_set}
 use Rattle.run_model.proofs.OpeningEntries.{each_opening}
 use Rattle.run_model.proofs.LowStampRuns.{opening_grants}
 use Rattle.run_model.proofs.Memories.{prepare_table}

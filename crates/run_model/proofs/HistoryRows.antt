@@ -15,7 +15,7 @@ use Rattle.entry_model.specs.declared.operation.Op.TheVariants as ops
 use Rattle.authority_mask.specs.Authority.{no_masks, row_says, key_rows}
 
 -- An entry of the page of VSID 1 and index 1 at this stamp.
-at_stamp : ℕ → State
+unfoldable pub at_stamp : ℕ → State
 at_stamp stamp =
     record {
       valid = true;
@@ -26,7 +26,7 @@ at_stamp stamp =
       stamp = stamp;
     }
 
-with_r : State
+unfoldable pub with_r : State
 with_r = record (at_stamp 2) { referenced = true }
 
 reached : Op

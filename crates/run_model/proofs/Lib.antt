@@ -1,4 +1,3 @@
-pub mod Each
 pub mod HeldLines
 pub mod Commits
 pub mod LinesByProcessor
@@ -54,7 +53,7 @@ pub mod RefusedResizes
 pub mod SmallPartition
 mod AssuranceRows
 mod CachedAccessRows
-mod HistoryRows
+pub mod HistoryRows
 mod SectionRows
 mod ParallelRows
 mod RefusedRows

@@ -5,7 +5,7 @@ use Rattle.entry_model.specs.declared.receipt.Receipt.{Receipt}
 use Rattle.entry_model.proofs.Heights.{weight, weight_append}
 use Rattle.trace_reply.specs.Replies.{RepliedLine, receipts_in}
 use Rattle.run_model.specs.Histories.{receipts_by}
-use Rattle.run_model.proofs.Each.{each_append, each_front, each_back}
+use Rattle.basics.proofs.Each.{each_append, each_front, each_back}
 
 -- What holds of each receipt of each line holds of each receipt; and back.
 pub each_receipt :

@@ -12,6 +12,7 @@ use Rattle.run_model.specs.Processors.{processor_at, processor_after, processors
 use Rattle.run_model.specs.Histories.{lines_of_processor, receipts_by, receipts_from_processor}
 use Rattle.run_model.specs.Sections.{processor_after_lines, processors_after_lines}
 use Rattle.run_model.specs.GoodRun.{EachLineOfProcessor}
+use Rattle.entry_model.proofs.Logged.{regrouped_before}
 
 -- each line's processor is one of n
 abbrev pub Cpus : ℕ → List RepliedLine → Type 0
@@ -63,6 +64,7 @@ pub cpus_after :
 cpus_after processors t ts h = subst (λ n. Cpus n ts) (sym (processors_size processors t)) h
 
 -- ---- facts of each line, in file order
+-- A fact of each line and of its processor, which is as the lines before it in the file left it.
 abbrev pub InFileOrder :
     (Processor → RepliedLine → Type 0) → List Processor → List RepliedLine → Type 0
 InFileOrder P processors [] = Unit {0}
@@ -233,11 +235,6 @@ swap_blocks : (xs ys zs : List Receipt) → Regrouped (xs ++ (ys ++ zs)) (ys ++ 
 swap_blocks [] ys zs = regrouped_self (ys ++ zs)
 swap_blocks (x ∷ xs) ys zs = twice (kept x (swap_blocks xs ys zs)) (swap_one x ys (xs ++ zs))
 
-pub prefixed :
-    (xs : List Receipt) {us vs : List Receipt} → Regrouped us vs → Regrouped (xs ++ us) (xs ++ vs)
-prefixed [] r = r
-prefixed (x ∷ xs) r = kept x (prefixed xs r)
-
 skip_listed :
     (n c : ℕ) (t : RepliedLine) (ts : List RepliedLine)
     → t.line.cpu < c
@@ -291,7 +288,7 @@ front_listed (suc n) c t ts low high =
           let r = twice
           (swap_blocks (receipts_in t.reply) (receipts_by (lines_of_processor c ts))
           (receipts_from_processor n (suc c) ts))
-          (prefixed (receipts_by (lines_of_processor c ts)) (rest more (omega arith))) in
+          (regrouped_before (receipts_by (lines_of_processor c ts)) (rest more (omega arith))) in
           subst
           (λ l.
           Regrouped (receipts_in t.reply ++ receipts_from_processor (suc n) c ts)
@@ -308,5 +305,5 @@ pub file_listed :
     → Regrouped (receipts_by ts) (receipts_from_processor n 0 ts)
 file_listed n [] h = subst (λ l. Regrouped [] l) (sym (none_listed n 0)) nothing
 file_listed n (t ∷ ts) h =
-    twice (prefixed (receipts_in t.reply) (file_listed n ts h.1))
+    twice (regrouped_before (receipts_in t.reply) (file_listed n ts h.1))
     (front_listed n 0 t ts (omega arith) (omega (arith, h.0)))

@@ -37,6 +37,7 @@ use Rattle.papr_codes.specs.declared.calls.Hcall.TheVariants as calls
 use Rattle.papr_codes.specs.declared.codes.Rc.TheVariants as rc
 use Rattle.trace_line.specs.declared.act.Act.TheVariants as acts
 
+-- Each state's stamp is low, by this bound, and its page is granted where it is valid.
 abbrev pub AreLowStamp : GrantedMemory → ℕ → List State → Type 0
 AreLowStamp granted n states = AllByRecursion (IsLowStamp granted.grants n) states
 

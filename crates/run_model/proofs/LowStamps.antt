@@ -20,7 +20,7 @@ use Rattle.trace_reply.specs.Replies.{RepliedLine}
 use Rattle.run_model.specs.Stores.{Store, states_of}
 use Rattle.run_model.specs.Histories.{closing_from, receipts_from_processor}
 use Rattle.run_model.specs.Sections.{section_end}
-use Rattle.run_model.proofs.Each.{each_map, each_filter, each_at, each_under}
+use Rattle.basics.proofs.Each.{each_map, each_filter, each_at, each_under}
 use Rattle.run_model.proofs.OneProcessor.{closing_size}
 use Rattle.run_model.proofs.SectionGood.{each_regrouped}
 

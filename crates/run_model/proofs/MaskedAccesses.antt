@@ -32,7 +32,7 @@ use Rattle.run_model.specs.Quiet.{QuietPart, cut}
 use Rattle.run_model.specs.Sections.{Section, closing, section_end, after_quiet, quiet_on, section_of, processor_after_lines, sections_from, sections_of}
 use Rattle.run_model.specs.GoodRun.{EachLineOfProcessor, IsAccessLine, AccessesAreReplied, IsGoodSection, IsGoodRun}
 use Rattle.run_model.specs.MaskedAccesses.{IsMaskedByItsEntry, MasksRefuse, SetsZero, HasNoMasked, IsUnmasked, NoneIsMasked}
-use Rattle.run_model.proofs.Each.{each_at, each_filter, each_map}
+use Rattle.basics.proofs.Each.{each_at, each_filter, each_map}
 use Rattle.run_model.proofs.ProcessorLists.{after_each}
 
 -- ---- accesses

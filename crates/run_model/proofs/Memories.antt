@@ -27,6 +27,8 @@ pub record IsMemory (limit : ℕ) (pending : Option PendingTable) (table : Table
   pub size : length table.states ≡ 2 ^ (table.order - 4)
   pub allowed : IfSome pending IsAllowed
 
+-- The memory's current table has as many entries as its order says, and neither the pending one's
+-- order nor the limit is above what there may be.
 abbrev pub MemoryStands : TableMemory → Type 0
 MemoryStands memory = IsMemory memory.limit memory.pending memory.table
 

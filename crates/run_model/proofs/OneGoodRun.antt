@@ -8,7 +8,7 @@ use Rattle.run_model.specs.Laws.{HasOneProcessor}
 use Rattle.run_model.specs.Quiet.{cut}
 use Rattle.run_model.specs.SerialRun.{serial_replies}
 use Rattle.run_model.specs.Stores.{Store, opening_stores, is_on, lines_on}
-use Rattle.run_model.proofs.Each.{each_map, each_both}
+use Rattle.basics.proofs.Each.{each_map, each_both}
 use Rattle.run_model.proofs.OneProcessor.{cut_one, lines_of_one, sections_stand}
 use Rattle.run_model.proofs.OneReply.{Cut, same_lines}
 use Rattle.run_model.proofs.SerialGood.{cut_cpus, lines_on_cpus}

@@ -1,6 +1,6 @@
 -- The good runs of one processor run with nobody else at the table.
 use Rattle.std.specs.Prelude.{IfSome, if◌then◌else◌, ◌==◌, max, filter, slice_set}
-use Rattle.std.proofs.Common.{◌≡◌, ℕ, suc, ◌<◌, ◌≤◌, ◌+◌, ◌*◌, List, [], ◌∷◌, ◌++◌, Bool, true, false, ap, sym, ◌∙◌, refl, subst, ◌⊎◌, inl, inr, set, map, length, length-set, arith, Option, Some, None, cond, eqb, append_assoc}
+use Rattle.std.proofs.Common.{◌≡◌, ℕ, suc, ◌<◌, ◌≤◌, ◌+◌, ◌*◌, List, [], ◌∷◌, ◌++◌, Bool, true, false, ap, sym, ◌∙◌, refl, subst, ◌⊎◌, inl, inr, set, map, length, length-set, arith, Option, Some, None, eqb, append_assoc}
 use Rattle.std.specs.List.{AllByRecursion}
 use Rattle.std.proofs.lemmas.Bool.{cases_Bool, eq-eqb, eqb-true, eqb-false}
 use Rattle.std.proofs.lemmas.Bool.Decides.{nat_tests}
@@ -11,8 +11,8 @@ use Rattle.entry_model.specs.declared.receipt.Receipt.{Receipt}
 use Rattle.entry_model.specs.Receipt.{after_of}
 use Rattle.entry_model.specs.Run.{state_at, IsRun, IsStep}
 use Rattle.entry_model.specs.History.{IsLegal, history, by_place, put_in, precedes, place, pair_of}
-use Rattle.entry_model.proofs.Regroup.{history_regrouped, regrouped_back}
-use Rattle.entry_model.proofs.Sorted.{rises, flag, place_same}
+use Rattle.entry_model.proofs.Regroup.{history_regrouped, regrouped_back, put_front}
+use Rattle.entry_model.proofs.Sorted.{rises, flag, place_same, bits_low}
 use Rattle.entry_model.proofs.RunHistory.{run_chain}
 use Rattle.tlb_model.specs.Processor.{Processor}
 use Rattle.trace_line.specs.declared.act.Act.{Act}
@@ -26,7 +26,7 @@ use Rattle.run_model.specs.QuietLines.{run_quiet_line}
 use Rattle.run_model.specs.Sections.{Section, made_in, closing, section_end, after_quiet, quiet_on, section_of, sections_from}
 use Rattle.run_model.specs.StoreContexts.{StoreContext, access_of}
 use Rattle.run_model.specs.Stores.{Store, context_of, states_of}
-use Rattle.run_model.proofs.Each.{each_filter}
+use Rattle.basics.proofs.Each.{each_filter}
 use Rattle.run_model.proofs.LinesByProcessor.{Cpus, InFileOrder, own_yes, processor_own, cpus_after, file_lines, file_listed}
 use Rattle.run_model.proofs.SectionGood.{each_regrouped, AllCpus, OnCpus, RunsAlone, QuietMeets, Stands, behind, closes, on_cpus, after_size, processors_on_size}
 use Rattle.run_model.proofs.Undisturbed.{AreUndisturbed}
@@ -37,6 +37,8 @@ use Rattle.trace_reply.specs.Replies.{RepliedLine, receipts_in, lines_with_repli
 use Rattle.entry_model.specs.Fronts.{pair_beyond}
 
 -- ---- receipts of one entry and one processor, in its order
+-- The pair of each receipt's state before isn't below that of the state that the receipt before it
+-- left; for the first receipt it isn't below p.
 abbrev pub Rising : ℕ → List Receipt → Type 0
 Rising p [] = Unit {0}
 Rising p (r ∷ rs) = (p ≤ pair_of r.before) × Rising (pair_of (after_of r)) rs
@@ -58,19 +60,16 @@ in_place x y h = at (rises x) where
 pub precedes_level : (x y : Receipt) → place x ≤ place y → precedes x y ≡ true
 precedes_level x y h = grind (arith, nat_tests)
 
-put_first :
-    (x y : Receipt) (ys : List Receipt) → precedes x y ≡ true → put_in x (y ∷ ys) ≡ x ∷ y ∷ ys
-put_first x y ys h = rw h refl
-
 -- such receipts are sorted already
 sorted_is : (p : ℕ) (rs : List Receipt) → Rising p rs → by_place rs ≡ rs
 sorted_is p [] k = refl
 sorted_is p (x ∷ []) k = refl
 sorted_is p (x ∷ y ∷ ys) k =
     let rest : by_place (y ∷ ys) ≡ y ∷ ys = sorted_is (pair_of (after_of x)) (y ∷ ys) k.1 in
-    ap (put_in x) rest ∙ put_first x y ys (precedes_level x y (in_place x y k.1.0))
+    ap (put_in x) rest ∙ put_front x y ys (precedes_level x y (in_place x y k.1.0))
 
 -- ---- from the events of the processor
+-- The receipts of one entry, in their order.
 abbrev pub of_entry : ℕ → List Receipt → List Receipt
 of_entry e rs = filter (λ (r : Receipt). eqb r.entry e) rs
 
@@ -221,12 +220,6 @@ run_split :
     → (mid : List State) × IsRun a xs mid × IsRun mid ys b
 run_split a b [] ys h = (a, refl, h)
 run_split a b (x ∷ xs) ys h = let k = run_split h.0 b xs ys h.2 in (k.0, (h.0, h.1, k.1), k.2)
-
-bits_low : (r c : Bool) → cond r 1 0 + cond c 1 0 ≤ 2
-bits_low true true = omega arith
-bits_low true false = omega arith
-bits_low false true = omega arith
-bits_low false false = omega arith
 
 pub pair_stamp : (n : ℕ) (s : State) → (n + 1) * 4 ≤ pair_of s → n < s.stamp
 unfolding pair_of

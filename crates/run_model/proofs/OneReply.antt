@@ -36,7 +36,7 @@ use Rattle.run_model.specs.Quiet.{QuietPart, cut, cut_before}
 use Rattle.run_model.specs.QuietLines.{run_quiet_line}
 use Rattle.run_model.specs.SerialRun.{is_current, current_line, access_result, result_by_line, result_by_segment, call_result, line_result}
 use Rattle.run_model.specs.Stores.{Store, context_of, states_of, lines_on}
-use Rattle.run_model.proofs.Each.{filter_yes, filter_no}
+use Rattle.basics.proofs.Each.{filter_yes, filter_no}
 use Rattle.run_model.proofs.SectionGood.{Stands}
 use Rattle.run_model.proofs.Undisturbed.{IsUndisturbed}
 use Rattle.run_model.proofs.WindowCalls.{device_is}
@@ -95,6 +95,7 @@ hit_current seg a line [] states b trial all run = absurd trial
 hit_current seg a line (r ∷ rs) states b trial all run =
     subst (IsCurrent line) (run.1.before ∙ ap (state_at states) trial.0.entry) all.0
 
+-- The calls on entries that a walk makes for a request in this segment.
 abbrev pub calls_by_walk : AccessContext → Segment → Request → List Call
 calls_by_walk set seg a = walk_calls set.order seg.page (mode_for seg a)
 
@@ -247,6 +248,7 @@ behind_off on s t x off h =
     let k = rw off at h in
     subst (λ b. Stands on (record s { memory = with_states s.memory b }) x.0 x.1) k.1 k.3
 
+-- The lines, cut at the quiet ones, stand on the store with their replies, section by section.
 abbrev pub Cut : (Act → Bool) → Store → List RepliedLine → Type 0
 Cut on s ts = Stands on s (cut ts).0 (cut ts).1
 

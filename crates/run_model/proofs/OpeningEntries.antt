@@ -14,7 +14,7 @@ use Rattle.hpt_walk.proofs.Granted.{IsGranted, reply_granted, empty_granted}
 use Rattle.hpt_resize.specs.TableMemory.{opening_memory, empty_states, with_entries}
 use Rattle.hpt_resize.proofs.OpeningStates.{with_entry}
 use Rattle.run_model.specs.Stores.{states_of, page_table}
-use Rattle.run_model.proofs.Each.{each_map, each_set, each_replicate}
+use Rattle.basics.proofs.Each.{each_map, each_set, each_replicate}
 use Rattle.run_model.proofs.SafeReplies.{suited_granted}
 use Rattle.entry_model.specs.declared.operation.Op.TheVariants as ops
 

@@ -28,7 +28,7 @@ use Rattle.run_model.specs.QuietLines.{run_quiet_line}
 use Rattle.run_model.specs.Sections.{Section, made_in, closing, closing_on, section_end, after_quiet, quiet_on, section_of, sections_from}
 use Rattle.run_model.specs.StoreContexts.{StoreContext, access_of}
 use Rattle.run_model.specs.Stores.{Store, context_of, states_of, opening_stores, is_on}
-use Rattle.run_model.proofs.Each.{each_map}
+use Rattle.basics.proofs.Each.{each_map}
 use Rattle.run_model.proofs.SectionGood.{closing_is, stamp_pair}
 
 -- ---- fronts

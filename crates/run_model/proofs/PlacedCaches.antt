@@ -52,7 +52,7 @@ use Rattle.run_model.specs.Sections.{processor_after_lines, processors_after_lin
 use Rattle.run_model.specs.GoodRun.{EachLineOfProcessor, IsAccessLine}
 use Rattle.run_model.specs.Landings.{IsLanding, Lands, LandsByItsEntry}
 use Rattle.run_model.proofs.ProcessorLists.{after_each}
-use Rattle.run_model.proofs.Each.{each_map, each_at, each_filter, each_of_map}
+use Rattle.basics.proofs.Each.{each_map, each_at, each_filter, each_of_map}
 use Rattle.run_model.proofs.LineReceipts.{receipts_of_each}
 use Rattle.run_model.proofs.LowStamps.{IsLowStamp, top, FromLowStamp}
 use Rattle.run_model.proofs.Memories.{prepare_table}
@@ -113,9 +113,6 @@ landing granted order ea page r apart low_stamp on was seg same =
 at_decided : (a : Answer) → is_at a ≡ true → is_decided a ≡ true
 at_decided answers.At h = refl
 at_decided other h = cc
-
-UsedPage : ℕ → VirtualPage → Receipt → Type 0
-UsedPage order page r = IsTrue (is_decided r.answer) → WasOfPage order page r
 
 refused_lands :
     (granted : GrantedMemory) (order ea : ℕ) (seg : Segment) (found : Option Receipt)
@@ -214,6 +211,8 @@ way_lands granted set seg a None None r apart same is of group low h = absurd h
 way_lands granted set seg a (Some line) None r apart same is of group low h = absurd h
 
 -- ---- the cache after it
+-- Each line that the processor has cached is of an entry in its page's group of a table of this
+-- order.
 abbrev pub ProcessorPlaced : ℕ → Processor → Type 0
 ProcessorPlaced order processor = AllCached (StandsInItsGroup order) processor.cache
 
@@ -321,6 +320,7 @@ line_lands granted set p (acts.SetMask name value) reply apart same placed low h
 line_lands granted set p acts.Dump reply apart same placed low h = (tt, placed)
 
 -- ---- the lines of a processor
+-- Each receipt of these lines found a state with a low stamp.
 abbrev pub LinesFromLowStamp : GrantedMemory → List RepliedLine → Type 0
 LinesFromLowStamp granted ts =
     AllByRecursion (λ (t : RepliedLine). FromLowStamp granted.grants top (receipts_in t.reply)) ts
@@ -343,6 +343,7 @@ lines_land granted set b p (t ∷ ts) apart same placed low h =
     ((here.0, rest.0), rest.1)
 
 -- ---- all processors
+-- Each line that a processor of the store has cached is of an entry in its page's group.
 abbrev pub AllPlaced : Store → Type 0
 AllPlaced w = AllByRecursion (ProcessorPlaced w.memory.table.order) w.processors
 

@@ -12,9 +12,8 @@ use Rattle.hpte_fields.specs.Fields.{protected_word}
 use Rattle.frame_grants.specs.declared.grant.Grant.{Grant}
 use Rattle.bus_window.specs.Windows.{BusWindow, entry_at}
 use Rattle.dma_window.specs.Calls.{code_of as code_of_answer, code_by_last, clear_plan, replace_plan, put_plan_at, get_plan_at, put_tce_plan, get_tce_plan}
-use Rattle.dma_window.specs.Entries.{address_of, permits, first_word, second_word as second_word_of_tce, no_test}
+use Rattle.dma_window.specs.Entries.{address_of, permits, first_word, second_word as second_word_of_tce}
 use Rattle.dma_window.specs.Pages.{is_ram}
-use Rattle.dma_window.proofs.BusyCalls.{goes as goes_on}
 use Rattle.entry_model.specs.State.{State, empty_state}
 use Rattle.entry_model.specs.declared.operation.Answer.{Answer}
 use Rattle.entry_model.specs.declared.operation.Op.{Op}
@@ -22,7 +21,7 @@ use Rattle.entry_model.specs.declared.operation.Test.{Test}
 use Rattle.entry_model.specs.declared.receipt.Receipt.{Receipt}
 use Rattle.entry_model.specs.declared.hreply.HReply.{HReply}
 use Rattle.entry_model.specs.Receipt.{after_of, is_at, is_taken, is_worn}
-use Rattle.entry_model.specs.Reply.{reply_of, change_to, change_where, entered_state, is_found}
+use Rattle.entry_model.specs.Reply.{reply_of, change_to, change_where, entered_state, is_found, no_test}
 use Rattle.entry_model.specs.Trial.{Call, IsTrial, Plan, IsReplyOf, plan_of_code, call}
 use Rattle.entry_model.proofs.OperationLaws.{access_undone}
 use Rattle.page_grants.specs.Suited.{entered_words}
@@ -35,11 +34,13 @@ use Rattle.call_plan.proofs.RemovedChanges.{ShowsRemoved, removals_shown}
 use Rattle.run_model.specs.StoreContexts.{StoreContext}
 use Rattle.run_model.specs.LineReplies.{put_plan, get_plan, hcall_plan}
 use Rattle.run_model.specs.RefusedCalls.{is_refusal, is_removed, keeps_removals, LeavesEntry}
-use Rattle.run_model.proofs.Each.{each_map}
+use Rattle.basics.proofs.Each.{each_map}
 use Rattle.papr_codes.specs.declared.calls.Hcall.TheVariants as calls
 use Rattle.papr_codes.specs.declared.codes.Rc.TheVariants as rc
 use Rattle.entry_model.specs.declared.operation.Answer.TheVariants as answers
 use Rattle.entry_model.specs.declared.operation.Op.TheVariants as ops
+use Rattle.basics.proofs.Bools.{no_more}
+use Rattle.entry_model.proofs.Trials.{not_worn}
 
 -- ---- answers without a change
 -- The answers that come with a change.
@@ -295,29 +296,25 @@ last_keeps (r ∷ x ∷ rs) refused = last_keeps (x ∷ rs) refused
 last_leaves : (r : Receipt) → is_refusal (code_of_answer r.answer) ≡ true → LeavesEntry true r
 last_leaves r refused = (without_leaves true (r ∷ []) ((coded_by_tce r.answer refused).0, tt)).0
 
-no_more : (goes : Bool) (x : Receipt) (rs : List Receipt) → MatchBool goes ⊥ ((x ∷ rs) ≡ []) → ⊥
-no_more true x rs h = h
-no_more false x rs h = cc
-
 no_third :
     (goes : Bool) (entry : ℕ) (op : Op) (x y : Receipt) (rs : List Receipt)
-    → MatchBool goes (IsTrial goes_on (call op entry ∷ []) (x ∷ y ∷ rs)) ((x ∷ y ∷ rs) ≡ [])
+    → MatchBool goes (IsTrial not_worn (call op entry ∷ []) (x ∷ y ∷ rs)) ((x ∷ y ∷ rs) ≡ [])
     → ⊥
-no_third true entry op x y rs h = no_more (goes_on x.answer) y rs h.1
+no_third true entry op x y rs h = no_more (not_worn x.answer) y rs h.1
 no_third false entry op x y rs h = cc
 
 cleared_leave :
     (entry : ℕ) (rs : List Receipt)
-    → IsTrial goes_on (clear_plan entry).calls rs
+    → IsTrial not_worn (clear_plan entry).calls rs
     → is_refusal (code_by_last rs) ≡ true
     → AllByRecursion (LeavesEntry true) rs
 cleared_leave entry [] trial refused = tt
 cleared_leave entry (r ∷ []) trial refused = (last_leaves r refused, tt)
-cleared_leave entry (r ∷ x ∷ rs) trial refused = absurd (no_more (goes_on r.answer) x rs trial.1)
+cleared_leave entry (r ∷ x ∷ rs) trial refused = absurd (no_more (not_worn r.answer) x rs trial.1)
 
 replaced_leave :
     (entry : ℕ) (op : Op) (rs : List Receipt)
-    → IsTrial goes_on (replace_plan entry op).calls rs
+    → IsTrial not_worn (replace_plan entry op).calls rs
     → is_refusal (code_by_last rs) ≡ true
     → AllByRecursion (LeavesEntry true) rs
 replaced_leave entry op [] trial refused = tt
@@ -325,7 +322,7 @@ replaced_leave entry op (r ∷ []) trial refused = (last_leaves r refused, tt)
 replaced_leave entry op (r ∷ x ∷ []) trial refused =
     (removed_leaves r no_test trial.0.op, (last_leaves x refused, tt))
 replaced_leave entry op (r ∷ x ∷ y ∷ rs) trial refused =
-    absurd (no_third (goes_on r.answer) entry op x y rs trial.1)
+    absurd (no_third (not_worn r.answer) entry op x y rs trial.1)
 
 -- A refused reply of this plan leaves the entries of its receipts, but for removals that its code
 -- keeps.

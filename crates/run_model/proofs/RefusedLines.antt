@@ -22,8 +22,6 @@ use Rattle.entry_model.specs.declared.access_reply.By.TheVariants.{Hit, Walk}
 use Rattle.entry_model.specs.declared.access_reply.Outcome.{Outcome}
 use Rattle.entry_model.specs.declared.access_reply.Outcome.TheVariants as outcomes
 use Rattle.entry_model.specs.declared.line.Line.{Line}
-use Rattle.entry_model.specs.declared.operation.Answer.{Answer}
-use Rattle.entry_model.specs.declared.operation.Answer.TheVariants as answers
 use Rattle.entry_model.specs.declared.receipt.Receipt.{Receipt}
 use Rattle.entry_model.specs.Receipt.{is_no_match, is_at, found_of}
 use Rattle.entry_model.specs.Trial.{Call, IsTrial}
@@ -54,6 +52,7 @@ use Rattle.run_model.proofs.AllSafe.{accesses_land}
 use Rattle.run_model.proofs.Refusals.{hcall_leaves}
 use Rattle.trace_line.specs.declared.act.Act.TheVariants as acts
 use Rattle.trace_reply.specs.declared.reply.Reply.TheVariants as replies
+use Rattle.entry_model.proofs.Trials.{no_match_not_at}
 
 -- ---- the receipts of an access
 -- The access ended neither At nor outside the grants.
@@ -79,10 +78,6 @@ found_not_at grants ea r h = at (cases_Bool (is_at r.answer)) where
       (landed (machine_range grants (logical_of ea r.before) 1) (logical_of ea r.before)
       (rw on at h))
   at (inr off) = off
-
-no_match_not_at : (answer : Answer) → is_no_match answer ≡ true → is_at answer ≡ false
-no_match_not_at answers.NoMatch on = refl
-no_match_not_at other on = cc
 
 tried_not_at :
     (grants : List Grant) (ea : ℕ) (cs : List Call) (rs : List Receipt)

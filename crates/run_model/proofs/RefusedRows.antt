@@ -7,14 +7,14 @@ use Rattle.papr_codes.specs.declared.codes.Rc.TheVariants.{Busy, LongBusy, NoMem
 use Rattle.frame_grants.specs.Grants.{machine_range}
 use Rattle.bus_window.specs.Windows.{BusWindow, bus_window}
 use Rattle.dma_window.specs.Calls.{put_tce_plan}
-use Rattle.dma_window.specs.Entries.{first_word, second_word, no_test}
+use Rattle.dma_window.specs.Entries.{first_word, second_word}
 use Rattle.dma_window.specs.Pages.{is_ram}
 use Rattle.hpt_pool.specs.Pool.{block_at, lowest_place, multiples, taken_without}
 use Rattle.entry_model.specs.State.{State, empty_state}
 use Rattle.entry_model.specs.declared.device_reply.DeviceOutcome.TheVariants.{Denied}
 use Rattle.entry_model.specs.declared.hreply.HReply.{HReply}
 use Rattle.entry_model.specs.declared.receipt.Receipt.{Receipt}
-use Rattle.entry_model.specs.Reply.{entered_state}
+use Rattle.entry_model.specs.Reply.{entered_state, no_test}
 use Rattle.entry_model.specs.Receipt.{receipt_of, after_of}
 use Rattle.entry_model.specs.Replies.{device_reply_with, no_window_reply}
 use Rattle.entry_model.specs.Trial.{IsReplyOf, trial_run, plan_run}

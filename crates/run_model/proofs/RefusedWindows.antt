@@ -28,7 +28,7 @@ use Rattle.run_model.specs.Sections.{closing, after_quiet, quiet_on, section_of,
 use Rattle.run_model.specs.Stores.{Store, context_of, opening_store, is_on, lines_on}
 use Rattle.run_model.specs.LineReplies.{IsDeviceLine, IsCallReply}
 use Rattle.run_model.specs.RefusedCalls.{is_refused, LeavesEntry, LeavesAll, RefusedWindowLinesLeave}
-use Rattle.run_model.proofs.Each.{each_map, each_filter, each_passes, under_map}
+use Rattle.basics.proofs.Each.{each_map, each_filter, each_passes, under_map}
 use Rattle.run_model.proofs.CallLines.{IsWindowAct, on_window_act}
 use Rattle.run_model.proofs.Refusals.{hcall_leaves}
 

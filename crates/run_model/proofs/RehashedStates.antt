@@ -13,7 +13,7 @@ use Rattle.hpt_resize.specs.Rehash.{at_stamp_0, first_with, entry_at, collision_
 use Rattle.hpt_resize.specs.Pending.{PendingTable}
 use Rattle.hpt_resize.specs.Resize.{Table, commit_refusal, carry_outcome, complete_outcome, answer_outcome, outcome_of_commit}
 use Rattle.hpt_resize.specs.TableMemory.{TableMemory, commit_result}
-use Rattle.run_model.proofs.Each.{each_at, each_of_map}
+use Rattle.basics.proofs.Each.{each_at, each_of_map}
 
 module _ (P : State → Type 0) (empty : P (empty_state 0))
     (kept : (s : State) → P s → P (at_stamp_0 s)) where

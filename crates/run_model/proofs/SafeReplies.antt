@@ -41,7 +41,7 @@ use Rattle.trace_reply.specs.Replies.{IsOfKind, receipts_in}
 use Rattle.run_model.specs.StoreContexts.{table_context}
 use Rattle.run_model.specs.LineReplies.{hcall_plan, IsCallReply, IsReplyToAccess}
 use Rattle.run_model.specs.Landings.{IsUnworn}
-use Rattle.run_model.proofs.Each.{each_map, each_append}
+use Rattle.basics.proofs.Each.{each_map, each_append}
 use Rattle.run_model.proofs.LowStamps.{top, EnterGranted, FromLowStamp, none_worn}
 use Rattle.papr_codes.specs.declared.calls.Hcall.TheVariants as calls
 use Rattle.papr_codes.specs.declared.codes.Rc.TheVariants as rc

@@ -4,14 +4,14 @@ use Rattle.std.proofs.Common.{◌≡◌, ℕ, suc, ◌<◌, ◌≤◌, ◌+◌, 
 use Rattle.std.specs.List.{AllByRecursion}
 use Rattle.std.proofs.lemmas.Bool.{cond_both, cases_Bool, eqb-true}
 use Rattle.std.proofs.lemmas.List.{length-map}
-use Rattle.entry_model.specs.State.{State}
+use Rattle.entry_model.specs.State.{State, Follows}
 use Rattle.entry_model.specs.declared.line.Line.{Line}
 use Rattle.entry_model.specs.declared.receipt.Receipt.{Receipt}
 use Rattle.entry_model.specs.Receipt.{after_of}
 use Rattle.entry_model.specs.Run.{state_at, IsRun, IsStep}
 use Rattle.entry_model.proofs.Runs.{run_more, run-length}
 use Rattle.entry_model.specs.History.{IsLegal, history, last_after, bits, pair_of, Regrouped, nothing, kept, swapped, twice}
-use Rattle.entry_model.proofs.Follows.{Follows, same_or_more}
+use Rattle.entry_model.proofs.Follows.{same_or_more}
 use Rattle.entry_model.proofs.RunFollows.{run_follows}
 use Rattle.entry_model.proofs.LineLaws.{run_leaves}
 use Rattle.entry_model.proofs.Regroup.{history_regrouped}
@@ -32,7 +32,7 @@ use Rattle.run_model.specs.QuietLines.{run_resize, run_quiet_line}
 use Rattle.run_model.specs.Sections.{Section, made_in, closing, section_end, after_quiet, quiet_on, section_of, processors_after_lines, sections_from}
 use Rattle.run_model.specs.StoreContexts.{StoreContext, access_of}
 use Rattle.run_model.specs.Stores.{Store, context_of, states_of}
-use Rattle.run_model.proofs.Each.{each_filter}
+use Rattle.basics.proofs.Each.{each_filter}
 use Rattle.run_model.proofs.LinesByProcessor.{Cpus, InFileOrder, own_yes, own_no, processor_own, processor_other, processors_size, cpus_after, own_lines, own_processors, file_listed}
 use Rattle.run_model.proofs.Undisturbed.{AreUndisturbed}
 use Rattle.papr_codes.specs.declared.calls.Hcall.TheVariants as calls

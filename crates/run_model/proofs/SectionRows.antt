@@ -43,25 +43,11 @@ use Rattle.run_model.proofs.SmallPartition.{small}
 use Rattle.entry_model.specs.declared.operation.Op.TheVariants as ops
 use Rattle.trace_reply.specs.declared.reply.Reply.TheVariants as replies
 use Rattle.authority_mask.specs.Authority.{no_masks, row_says, key_rows}
+use Rattle.run_model.proofs.HistoryRows.{at_stamp, with_r}
 
 replied_line : ℕ → ℕ → Act → Reply → RepliedLine
 replied_line number cpu act reply =
     record { line = record { number = number; cpu = cpu; act = act }; reply = reply }
-
--- ---- receipts of the entry 0, of the page of VSID 1 and index 1
-at_stamp : ℕ → State
-at_stamp stamp =
-    record {
-      valid = true;
-      dword0 = 0x1001;
-      dword1 = 0x3012;
-      referenced = false;
-      changed = false;
-      stamp = stamp;
-    }
-
-with_r : State
-with_r = record (at_stamp 2) { referenced = true }
 
 protected : Receipt
 protected = receipt_of 0 (at_stamp 1) (ops.Protect (record { avpn = None; andcond = None }) 0x2)

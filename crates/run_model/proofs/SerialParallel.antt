@@ -30,7 +30,7 @@ use Rattle.run_model.specs.Sections.{Section, closing_on, after_quiet, quiet_on,
 use Rattle.run_model.specs.SerialRun.{serial_replies}
 use Rattle.run_model.specs.StoreContexts.{StoreContext}
 use Rattle.run_model.specs.Stores.{Store, context_of, states_of, opening_stores, is_on}
-use Rattle.run_model.proofs.Each.{each_map}
+use Rattle.basics.proofs.Each.{each_map}
 use Rattle.run_model.proofs.LinesByProcessor.{Cpus, own_yes, own_no, processor_own, processor_other, cpus_after, own_processors, file_listed}
 use Rattle.run_model.proofs.SectionGood.{AllCpus, OnCpus, RunsAlone, QuietMeets, Stands, behind, alone_run, within_run, each_regrouped, section_legal, follows_pair, stamp_pair, on_cpus, after_size, processors_on_size, gone_on}
 use Rattle.run_model.proofs.StoreSerial.{RunsHere, each_runs, serial_cpus}

@@ -46,7 +46,7 @@ use Rattle.run_model.specs.Processors.{processor_at, gone_line_of}
 use Rattle.run_model.specs.LineReplies.{hcall_plan, IsReplyToAccess}
 use Rattle.run_model.specs.SerialRun.{is_current, current_line, result_by_line, result_by_segment, line_result}
 use Rattle.run_model.proofs.Undisturbed.{IsUndisturbed}
-use Rattle.run_model.proofs.Each.{each_append}
+use Rattle.basics.proofs.Each.{each_append}
 use Rattle.run_model.proofs.CachesHold.{IsFresh, ProcessorFresh, IsSound, processor_fresh}
 use Rattle.run_model.proofs.OneReply.{IsPassed}
 use Rattle.run_model.proofs.WindowCalls.{window_room, put_within, get_within, device_meets}

@@ -7,7 +7,7 @@ use Rattle.trace_read.specs.Trace.{AcceptedTrace}
 use Rattle.trace_reply.specs.declared.reply.Reply.{Reply}
 use Rattle.trace_reply.specs.Replies.{RepliedLine, lines_with_replies}
 use Rattle.run_model.specs.Quiet.{QuietPart, cut}
-use Rattle.run_model.proofs.Each.{each_map, each_both, over_map, under_map}
+use Rattle.basics.proofs.Each.{each_map, each_both, over_map, under_map}
 use Rattle.run_model.specs.Stores.{Store, is_on, opening_stores}
 use Rattle.run_model.specs.Sections.{Section, closing, sections_from}
 use Rattle.run_model.specs.GoodRun.{IsGoodSection, IsGoodRun}

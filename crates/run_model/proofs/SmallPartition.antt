@@ -37,11 +37,14 @@ small cpus = record {
 }
 
 -- ---- lines of processor 0
+-- Line n makes the hypervisor call of this number, which it names, with these arguments.
 abbrev pub calls : ℕ → ℕ → List ℕ → TraceLine
 calls n number args = record { number = n; cpu = 0; act = Call number args true }
 
+-- Line n accesses this effective address, in problem state or not.
 abbrev pub reaches : ℕ → Want → ℕ → Bool → TraceLine
 reaches n want ea user = record { number = n; cpu = 0; act = Access want ea user }
 
+-- Line n is an slbmte of these two registers.
 abbrev pub mte : ℕ → ℕ → ℕ → TraceLine
 mte n rb rs = record { number = n; cpu = 0; act = SlbMte rb rs }

@@ -15,11 +15,15 @@ use Rattle.trace_read.specs.Configuration.{Configuration}
 use Rattle.trace_reply.specs.declared.reply.Reply.{Reply}
 use Rattle.trace_reply.specs.Replies.{RepliedLine, AreReplies, IsOfKind, lines_with_replies}
 use Rattle.run_model.specs.Stores.{Store, page_table, opening_store, opening_stores, is_on_window, is_on, lines_on}
-use Rattle.run_model.proofs.Each.{each_map, filter_yes, filter_no}
+use Rattle.basics.proofs.Each.{each_map, filter_yes, filter_no}
 use Rattle.papr_codes.specs.declared.calls.Hcall.TheVariants as calls
 use Rattle.trace_line.specs.declared.act.Act.TheVariants as acts
 
 -- ---- one line
+pub dump_is_quiet : (act : Act) → act ≡ acts.Dump → is_quiet act ≡ false → ⊥
+unfolding is_quiet
+dump_is_quiet act is off = let clash : true ≡ false = sym (ap is_quiet is) ∙ off in cc
+
 bus_call_plain :
     (h : Hcall) (args : List ℕ) (n : ℕ) → bus_of_call h args ≡ Some n → is_resize h ≡ false
 bus_call_plain calls.PutTce args n e = refl
@@ -72,18 +76,6 @@ quiet_on_table [] act q = refl
 quiet_on_table (w ∷ ws) act q =
     neither (is_on_window w act) (list_any (λ (v : BusWindow). is_on_window v act) ws)
     (quiet_off_window w act q) (quiet_on_table ws act q)
-
-either_of : (a b : Bool) → not (a || b) ≡ true → (a ≡ false) × (not b ≡ true)
-either_of false b h = (refl, h)
-either_of true b h = cc
-
--- A line on the page table is on none of the windows.
-pub table_off_windows :
-    (w : BusWindow) (ws : List BusWindow) (act : Act)
-    → is_on (w ∷ ws) None act ≡ true
-    → (is_on_window w act ≡ false) × (is_on ws None act ≡ true)
-table_off_windows w ws act h =
-    either_of (is_on_window w act) (list_any (λ (v : BusWindow). is_on_window v act) ws) h
 
 -- A line of the windows but not of the first is of the others.
 pub off_first :

@@ -156,6 +156,7 @@ pub record IsOnTable (n : ℕ) (ws : List BusWindow) (act : Act) : Type 0 where
   pub number : store_from n ws act ≡ 0
   pub on : is_on ws None act ≡ true
 
+-- The line is on the window at an index of these, where the first of them has the number n.
 pub record IsOnOne (n : ℕ) (vs : List WindowState) (act : Act) : Type 0 where
   pub at : ℕ
   pub number : store_from n (windows_in vs) act ≡ n + at

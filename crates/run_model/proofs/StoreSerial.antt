@@ -29,7 +29,7 @@ use Rattle.run_model.specs.QuietLines.{is_success, run_resize, run_quiet_line, a
 use Rattle.run_model.specs.SerialRun.{line_result, with_result, run_on, run_line, replies_from, serial_replies}
 use Rattle.run_model.specs.Stores.{Store, context_of, states_of, page_table, opening_window, opening_store, opening_stores, is_on_window, is_on}
 use Rattle.run_model.proofs.CachesHold.{IsSound, ProcessorFresh, sound_on, empty_fresh, no_cache}
-use Rattle.run_model.proofs.Each.{each_map, each_both, each_of_map, each_replicate, over_map}
+use Rattle.basics.proofs.Each.{each_map, each_both, each_of_map, each_replicate, over_map}
 use Rattle.run_model.proofs.Memories.{MemoryStands, opening_stands, memory_prepared, prepare_table, memory_committed, commit_moves}
 use Rattle.run_model.proofs.OneReply.{Cut}
 use Rattle.run_model.proofs.SectionGood.{AllCpus, Stands, sections_good}

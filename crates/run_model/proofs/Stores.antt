@@ -16,6 +16,7 @@ use Rattle.storage_prot.specs.declared.want.Want.TheVariants as wants
 use Rattle.entry_model.specs.declared.operation.Op.TheVariants as ops
 use Rattle.entry_model.specs.declared.operation.Answer.TheVariants as answers
 use Rattle.authority_mask.specs.declared.masks.Masks.{Masks}
+use Rattle.std.proofs.Math.Bool.{or-true}
 
 -- An entry whose C is set.
 pub record IsDirty (s : State) : Type 0 where
@@ -79,16 +80,11 @@ op_keeps s (ops.Access tag base key no_execute want masks) d c =
     (λ e. d))
     (λ e. d) tt
 
--- ---- a store
-or_true : (b : Bool) → (b || true) ≡ true
-or_true true = refl
-or_true false = refl
-
 store_changes :
     (want : Want) (s : State)
     → (if is_store want then is_at answers.At else false) ≡ true
     → (s.changed || is_store want) ≡ true
-store_changes wants.Store s h = or_true s.changed
+store_changes wants.Store s h = or-true s.changed
 store_changes wants.Load s h = cc
 store_changes wants.Fetch s h = cc
 

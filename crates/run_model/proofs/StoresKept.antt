@@ -15,7 +15,7 @@ use Rattle.run_model.specs.Sections.{Section, closing, sections_of}
 use Rattle.run_model.specs.GoodRun.{IsGoodRun, IsGoodSection, AreLegal}
 use Rattle.run_model.specs.ShownStores.{history_in, closing_state, has_table_of, carried_to, ShowsChange, StaysShown, NoStoreIsLostIn, NoSetBitIsLostIn}
 use Rattle.run_model.specs.CommittedResizes.{is_committed}
-use Rattle.run_model.proofs.Each.{each_map}
+use Rattle.basics.proofs.Each.{each_map}
 use Rattle.run_model.proofs.Resized.{Moves, IsAfter, resized_at}
 use Rattle.run_model.proofs.SectionChain.{AreChained, chained_rest, chained, closed_order, same_number, other_number}
 use Rattle.run_model.proofs.Stores.{IsDirty, shows, stores_shown}

@@ -21,6 +21,7 @@ use Rattle.run_model.specs.StoreContexts.{StoreContext, access_of, table_context
 use Rattle.papr_codes.specs.declared.calls.Hcall.TheVariants as calls
 use Rattle.trace_line.specs.declared.act.Act.TheVariants as acts
 
+-- The store is the page table, and not a window.
 abbrev pub IsTable : Store → Type 0
 IsTable w = w.window ≡ None
 

@@ -20,6 +20,7 @@ pub record IsUndisturbed (set : StoreContext) (processor : Processor) (a : List 
       (λ line. line.stamp < (state_at a line.entry).stamp)
   pub run : IsRun a (receipts_in t.reply) b
 
+-- The lines run one after the other with nobody else at the table, from these states to those.
 abbrev pub AreUndisturbed :
     StoreContext → List Processor → List State → List RepliedLine → List State → Type 0
 AreUndisturbed set processors a [] b = b ≡ a

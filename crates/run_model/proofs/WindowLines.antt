@@ -20,7 +20,7 @@ use Rattle.run_model.specs.Sections.{section_end_on, processor_after_lines, proc
 use Rattle.run_model.specs.SerialRun.{line_result, with_result, run_on}
 use Rattle.run_model.specs.StoreContexts.{window_context}
 use Rattle.run_model.specs.Stores.{page_table, opening_window, opening_store, opening_stores, window_store, is_on_window, lines_on}
-use Rattle.run_model.proofs.Each.{each_at, each_filter, each_passes, each_replicate}
+use Rattle.basics.proofs.Each.{each_at, each_filter, each_passes, each_replicate}
 use Rattle.run_model.proofs.LowStampRuns.{opening_grants}
 use Rattle.run_model.proofs.StoreLines.{on_window_bus, on_window_plain}
 use Rattle.trace_line.specs.declared.act.Act.TheVariants as acts

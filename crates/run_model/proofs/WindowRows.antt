@@ -3,7 +3,6 @@ use Rattle.std.specs.Prelude.{map}
 use Rattle.std.proofs.Common.{◌≡◌, ℕ, List, [], ◌∷◌, true, false, Some, None, refl}
 use Rattle.bus_window.specs.Windows.{BusWindow, bus_window}
 use Rattle.dma_window.specs.Calls.{put_tce_plan}
-use Rattle.dma_window.specs.Entries.{no_test}
 use Rattle.dma_window.specs.Pages.{is_ram}
 use Rattle.frame_grants.specs.declared.grant.Grant.{Grant}
 use Rattle.frame_grants.specs.declared.grant.Kind.TheVariants.{Ram}
@@ -12,7 +11,7 @@ use Rattle.papr_codes.specs.Hcalls.{hcall_of, row_of}
 use Rattle.papr_codes.specs.declared.codes.Rc.TheVariants.{Success}
 use Rattle.entry_model.specs.State.{State, empty_state}
 use Rattle.entry_model.specs.Receipt.{receipt_of}
-use Rattle.entry_model.specs.Reply.{entered_state}
+use Rattle.entry_model.specs.Reply.{entered_state, no_test}
 use Rattle.entry_model.specs.Replies.{no_window_reply}
 use Rattle.entry_model.specs.Trial.{trial_run, plan_run}
 use Rattle.entry_model.specs.History.{place, pair_of, state_eq}

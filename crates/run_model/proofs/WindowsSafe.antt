@@ -45,7 +45,7 @@ use Rattle.run_model.specs.Landings.{IsUnworn}
 use Rattle.run_model.specs.DeviceLandings.{DeviceLandsBy, DeviceLands}
 use Rattle.run_model.proofs.AllSafe.{IsLine, InSections, section_joined, line_count, cut_in, cut_out, cut_count, replied_lines_count, replied_lines_lines, table_unworn}
 use Rattle.run_model.proofs.CallLines.{on_window_act, AllQuiet, cut_quiet, each_of_section, good_calls}
-use Rattle.run_model.proofs.Each.{each_map, each_both, each_filter, each_passes, each_replicate, each_where, filter_length, over_map, under_map}
+use Rattle.basics.proofs.Each.{each_map, each_both, each_filter, each_passes, each_replicate, each_where, filter_length, over_map, under_map}
 use Rattle.run_model.proofs.LowStampRuns.{processors_by_size}
 use Rattle.run_model.proofs.StoreLines.{HoldsOn, HoldOn, on_all_stores, opening_has, quiet_off_window}
 use Rattle.run_model.proofs.TableNamed.{opening_table}

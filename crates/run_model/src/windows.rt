@@ -1,5 +1,5 @@
 ghost use Rattle.std.specs.Prelude.{◌≡◌, map, true, IfOk};
-ghost use Rattle.trace_reply.specs.Places.{reply_in};
+ghost use Rattle.trace_reply.specs.Slots.{reply_in};
 ghost use Rattle.tlb_model.specs.Processor.{new_processor};
 ghost use Rattle.run_model.specs.AllStores.{opened};
 ghost use Rattle.run_model.specs.SerialRun.{line_result};
@@ -17,7 +17,7 @@ use std::alloc::{AllocError, Global};
 use std::marker::Model;
 use std::mem;
 use trace_line::Act;
-use trace_reply::ReplyPlace;
+use trace_reply::ReplySlot;
 
 /// The binary logarithm of the bytes of a window's store.
 pub const WINDOW_ORDER: u8 = LEAST_ORDER;
@@ -57,9 +57,9 @@ impl WindowEntries {
     }
 
     /// Runs a line on the window, which it names. Its reply takes the place.
-    pub fn line(&mut self, grants: &Grants, act: &Act, place: &mut ReplyPlace)
+    pub fn line(&mut self, grants: &Grants, act: &Act, slot: &mut ReplySlot)
         requires named { is_on_window self.old.window act.now ≡ true }
-        ensures reply { (reply_in place.new, self.new.states)
+        ensures reply { (reply_in slot.new, self.new.states)
             ≡ line_result
             (window_context grants.now.grants self.old.window)
             new_processor
@@ -74,7 +74,7 @@ impl WindowEntries {
             grants,
             window: Some(self.window),
         };
-        run_on_bus(&mut table, &around, act, place);
+        run_on_bus(&mut table, &around, act, slot);
         self.states = table.close();
     }
 }

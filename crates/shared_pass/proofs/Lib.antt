@@ -1,2 +1,2 @@
 pub mod AsBox
-mod HeldPlaces
+mod HeldPointers

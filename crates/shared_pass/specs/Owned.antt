@@ -1,4 +1,4 @@
--- What a place owns: a boxed value, or nothing.
+-- What a pointer owns: a boxed value, or nothing.
 use base.Fml.{Fml, ftrue}
 use base.Stored.{Coded}
 use denote.RawPtr.{Ptr}
@@ -9,11 +9,11 @@ use Rattle.std_heap.specs.contracts.GlobalAllocator.TheImpl.{ghosts}
 use Rattle.core.specs.contracts.option.Option as option
 use Rattle.shared_pass.specs.contracts.working.Working.{the_row}
 
--- What a place owns: the box at its pointer, or nothing.
-abbrev pub place_owns : Global → Ptr → Option the_row.Denot → Fml
-place_owns alloc p None = ftrue
-place_owns alloc p (Some x) = box_owns (ghosts.dealloc_token alloc) the_row p x
+-- What a pointer owns: the box at its pointer, or nothing.
+abbrev pub pointer_owns : Global → Ptr → Option the_row.Denot → Fml
+pointer_owns alloc p None = ftrue
+pointer_owns alloc p (Some x) = box_owns (ghosts.dealloc_token alloc) the_row p x
 
--- How a place's value stands in memory.
+-- How a pointer's value stands in memory.
 abbrev pub held_coded : Coded (Option the_row.Denot)
 held_coded = (option.the_row the_row).coded

@@ -8,7 +8,7 @@ mod driving;
 mod held;
 mod parts;
 mod pass;
-mod place;
+mod pointer;
 mod room;
 mod sharer;
 mod sharing;

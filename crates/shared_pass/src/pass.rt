@@ -1,7 +1,7 @@
 ghost use Rattle.std.specs.Prelude.{◌≡◌};
 ghost use Rattle.shared_pass.specs.Holding.{is_some};
 
-use crate::place::Place;
+use crate::pointer::WorkingPointer;
 use crate::working::Working;
 use std::alloc::Global;
 use std::mem::replace;
@@ -10,9 +10,9 @@ use std::mem::replace;
 #[repr(C)]
 #[derive(Drop)]
 pub struct PaprPass {
-    pub(crate) place: Place,
+    pub(crate) pointer: WorkingPointer,
     pub(crate) live: bool,
-    pub ghost is_live: { live ≡ is_some place.held },
+    pub ghost is_live: { live ≡ is_some pointer.held },
 }
 
 impl PaprPass {
@@ -20,10 +20,10 @@ impl PaprPass {
 
     /// A pass that is closed.
     fn closed(alloc: Global) -> PaprPass
-        ensures { result.place.held ≡ None }
+        ensures { result.pointer.held ≡ None }
     {
         PaprPass {
-            place: Place::none(alloc),
+            pointer: WorkingPointer::none(alloc),
             live: false,
         }
     }
@@ -31,7 +31,7 @@ impl PaprPass {
     /// Whether something is in it.
     #[inline]
     pub fn is_open(&self) -> bool
-        ensures { result ≡ is_some self.now.place.held }
+        ensures { result ≡ is_some self.now.pointer.held }
     {
         self.live
     }
@@ -39,11 +39,11 @@ impl PaprPass {
     /// Puts a pass into one that is closed.
     #[inline]
     pub fn put(&mut self, working: Box<Working>)
-        requires { self.old.place.held ≡ None }
-        ensures { self.new.place.held ≡ Some working.value }
+        requires { self.old.pointer.held ≡ None }
+        ensures { self.new.pointer.held ≡ Some working.value }
     {
         *self = PaprPass {
-            place: Place::of(working),
+            pointer: WorkingPointer::of(working),
             live: true,
         };
     }
@@ -51,12 +51,12 @@ impl PaprPass {
     /// Takes out what is in it.
     #[inline]
     pub fn take(&mut self, alloc: Global) -> Option<Box<Working>>
-        ensures some { IfSome result (λ b. self.old.place.held ≡ Some b.value) }
-        ensures none { IfNone result (self.old.place.held ≡ None) }
-        ensures closed { self.new.place.held ≡ None }
+        ensures some { IfSome result (λ b. self.old.pointer.held ≡ Some b.value) }
+        ensures none { IfNone result (self.old.pointer.held ≡ None) }
+        ensures closed { self.new.pointer.held ≡ None }
     {
         let old = replace(self, PaprPass::closed(alloc));
-        let PaprPass { place, live } = old;
-        if live { Some(place.into_box()) } else { None }
+        let PaprPass { pointer, live } = old;
+        if live { Some(pointer.into_box()) } else { None }
     }
 }

@@ -17,10 +17,12 @@ by_bits P a b c d e f g h (suc (suc (suc (suc (suc (suc (suc zero))))))) small =
 by_bits P a b c d e f g h (suc (suc (suc (suc (suc (suc (suc (suc pp)))))))) small =
     absurd (omega arith)
 
+-- The three protection bits and the key allow loads, by tests of single bits.
 abbrev pub reads_by_bits : ℕ → Bool → Bool
 reads_by_bits pp key =
     if bit_and pp 4 == 0 then not key || not (bit_and pp 3 == 0) else (bit_and pp 3 == 2) && not key
 
+-- The three protection bits and the key allow stores, by tests of single bits.
 abbrev pub writes_by_bits : ℕ → Bool → Bool
 writes_by_bits pp key =
     (bit_and pp 4 == 0) && not (bit_and pp 3 == 3) && (not key || not (bit_and pp 2 == 0))

@@ -52,17 +52,18 @@ unfolding entry_digits
 entry_digits_ascii layout w digits e = digits_ascii (laid_out layout w) digits e
 
 -- ---- bytes
-byte_small : (k x : ℕ) → byte_at k x < 256
+pub byte_small : (k x : ℕ) → byte_at k x < 256
 byte_small zero x = omega arith
 byte_small (suc k) x = omega arith
 
 -- Bytes of a number in front of bytes.
-bytes_of_number : (n x : ℕ) (rest : List ℕ) → IsBytes rest → IsBytes (bytes_high_first n x ++ rest)
+pub bytes_of_number :
+    (n x : ℕ) (rest : List ℕ) → IsBytes rest → IsBytes (bytes_high_first n x ++ rest)
 bytes_of_number zero x rest told i = told i
 bytes_of_number (suc n) x rest told zero = byte_small n x
 bytes_of_number (suc n) x rest told (suc i) = bytes_of_number n x rest told i
 
-no_bytes : IsBytes []
+pub no_bytes : IsBytes []
 no_bytes i = omega arith
 
 -- ---- digits are read back

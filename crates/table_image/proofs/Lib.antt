@@ -2,4 +2,4 @@ pub mod PutBack
 pub mod BitFields
 pub mod DigitTexts
 pub mod Lengths
-mod Rows
+pub mod Rows

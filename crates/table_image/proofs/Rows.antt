@@ -112,7 +112,7 @@ unfolding entry_words hex_on_literals
 old_past_high = refl
 
 -- ---- images
-entry : ℕ → ℕ → ℕ → ImageEntry
+unfoldable pub entry : ℕ → ℕ → ℕ → ImageEntry
 entry index dword0 dword1 = record { index = index; dword0 = dword0; dword1 = dword1 }
 
 image_of_none : image_of New 46 [] ≡ Ok (codes "image new order 46 entries 0\n")

@@ -35,6 +35,7 @@ unfolding generated_config with_grant
 granted_is (Ok x) old new is ok made = made ∙ ap (λ (g : GrantedMemory). with_grant g whole_ram) is
 granted_is (Err e) old new is ok made = absurd (cc)
 
+-- The configuration of a generated trace, with this memory granted, and these entries and windows.
 abbrev pub config_with : GrantedMemory → List ImageEntry → List BusWindow → Configuration
 config_with granted entries windows =
     record {

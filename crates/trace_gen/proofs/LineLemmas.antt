@@ -1,6 +1,6 @@
 -- Generated lines are lines of an accepted trace.
 use Rattle.std.specs.Prelude.{IsTrue}
-use Rattle.std.proofs.Common.{◌≡◌, ℕ, zero, suc, ◌+◌, ◌*◌, ◌<◌, ◌≤◌, Bool, false, List, [], ◌∷◌, ◌++◌, length, count_by, get_or, refl, sym, ap, ◌∙◌, subst, arith}
+use Rattle.std.proofs.Common.{◌≡◌, ℕ, zero, suc, ◌+◌, ◌*◌, ◌<◌, ◌≤◌, Bool, false, List, [], ◌∷◌, ◌++◌, length, count_by, refl, sym, ap, ◌∙◌, subst, arith}
 use Rattle.std.specs.List.{AllByRecursion}
 use Rattle.std.proofs.lemmas.List.{length-append}
 use Rattle.rand_core.specs.Steps.{first_words}
@@ -16,32 +16,7 @@ use Rattle.trace_line.specs.declared.act.Act.{Act}
 use Rattle.trace_line.specs.declared.line.TraceLine.{TraceLine}
 use Rattle.trace_gen.specs.Generated.{acts_of_word, act_of, entry_of, frame_of, generated_config, group_start, page_of, named_call, segment_line, kind_of, segment_lines, lines_from, words_of_seed, generated_trace}
 use Rattle.trace_line.specs.declared.act.Act.TheVariants as acts
-
--- ---- lists
-all_at :
-    {X : Type 0} (P : X → Type 0) (xs : List X) (i : ℕ) (d : X)
-    → AllByRecursion P xs
-    → i < length xs
-    → P (get_or xs i d)
-all_at P [] i d all inside = absurd (omega arith)
-all_at P (x ∷ xs) zero d all inside = all.0
-all_at P (x ∷ xs) (suc i) d all inside = all_at P xs i d all.1 (omega arith)
-
-all_append :
-    {X : Type 0} (P : X → Type 0) (xs ys : List X)
-    → AllByRecursion P xs
-    → AllByRecursion P ys
-    → AllByRecursion P (xs ++ ys)
-all_append P [] ys first second = second
-all_append P (x ∷ xs) ys first second = (first.0, all_append P xs ys first.1 second)
-
-all_imply :
-    {X : Type 0} (P Q : X → Type 0) (xs : List X)
-    → ((x : X) → P x → Q x)
-    → AllByRecursion P xs
-    → AllByRecursion Q xs
-all_imply P Q [] step all = tt
-all_imply P Q (x ∷ xs) step all = (step x all.0, all_imply P Q xs step all.1)
+use Rattle.basics.proofs.Each.{each_within, each_map, each_append}
 
 count_none :
     {X : Type 0} (p : X → Bool) (xs : List X)
@@ -107,7 +82,7 @@ plain_rows word = (
 plain_act : (word : ℕ) → IsPlain (act_of word)
 unfolding act_of
 plain_act word =
-    all_at IsPlain (acts_of_word word) (kind_of word) acts.Dump (plain_rows word) (omega arith)
+    each_within IsPlain (acts_of_word word) (kind_of word) acts.Dump (plain_rows word) (omega arith)
 
 record IsAccepted (line : TraceLine) : Type 0 where
   cpu : line.cpu < 4
@@ -155,19 +130,19 @@ pub is_trace :
     → IsTrace 4 (segment_lines ++ lines_from 5 (words_of_seed seed lines))
 is_trace seed lines few =
     let whole : List TraceLine = segment_lines ++ lines_from 5 (words_of_seed seed lines) in
-    let all = all_append IsAccepted segment_lines (lines_from 5 (words_of_seed seed lines))
+    let all = each_append IsAccepted segment_lines (lines_from 5 (words_of_seed seed lines))
     accepted_segments (accepted_words 5 (words_of_seed seed lines)) in
     let count = long seed lines in
     let quiet = count_none (λ (l : TraceLine). is_quiet l.act) whole
-    (all_imply IsAccepted (λ (l : TraceLine). is_quiet l.act ≡ false) whole
+    (each_map IsAccepted (λ (l : TraceLine). is_quiet l.act ≡ false) whole
     (λ l a. a.plain.loud) all) in
     let dumps = count_none (λ (l : TraceLine). is_dump l.act) whole
-    (all_imply IsAccepted (λ (l : TraceLine). is_dump l.act ≡ false) whole
+    (each_map IsAccepted (λ (l : TraceLine). is_dump l.act ≡ false) whole
     (λ l a. a.plain.no_dump) all) in
     record {
-      on_cpus = all_imply IsAccepted (λ (l : TraceLine). l.cpu < 4) whole (λ l a. a.cpu) all;
+      on_cpus = each_map IsAccepted (λ (l : TraceLine). l.cpu < 4) whole (λ l a. a.cpu) all;
       spelt =
-          all_imply IsAccepted (λ (l : TraceLine). IsSpelt l.act) whole (λ l a. a.plain.spelt) all;
+          each_map IsAccepted (λ (l : TraceLine). IsSpelt l.act) whole (λ l a. a.plain.spelt) all;
       few = omega arith;
       few_quiet = omega arith;
       few_dumps = omega arith;
@@ -196,6 +171,7 @@ kept_trace config all seed lines few same is =
     subst (λ n. IsTrace n all) (sym (ap (λ (c : Configuration). c.cpus) same))
     (subst (IsTrace 4) (sym is) (is_trace seed lines few))
 
+-- The trace of a configuration and run lines.
 abbrev pub trace_with : Configuration → List TraceLine → AcceptedTrace
 trace_with config lines = record { config = config; lines = lines }
 

@@ -1,7 +1,7 @@
 -- Worked values of the definitions, which the checker computes.
 use Rattle.std.proofs.Common.{◌≡◌, ◌^◌, ◌-◌, refl, lit<, true, false, [], ◌∷◌, Some, None, inl, inr}
 use Rattle.trace_io.specs.Outside.{Took, Put, AtEnd, Rose, counted, TookPast, PutPrefix}
-use Rattle.trace_io.specs.Memory.{fails_next, new_source, read_count, after_read, new_sink, told, write_count, after_write}
+use Rattle.trace_io.specs.Memory.{fails_next, new_source, read_count, after_read, new_sink, taken_bytes, write_count, after_write}
 
 -- ---- the words of the outside
 two_of_three_taken : Took (Some (7 ∷ 8 ∷ 9 ∷ [])) (7 ∷ 8 ∷ []) (Some (9 ∷ []))
@@ -64,10 +64,11 @@ sink_takes_a_piece : write_count (new_sink 2 [] 8) 5 ≡ Some 2
 sink_takes_a_piece = refl
 
 sink_tells_what_fits :
-    told (after_write (new_sink 4 [] 2) (7 ∷ 8 ∷ 9 ∷ []) (Some 2)) ≡ Some (7 ∷ 8 ∷ [])
+    taken_bytes (after_write (new_sink 4 [] 2) (7 ∷ 8 ∷ 9 ∷ []) (Some 2)) ≡ Some (7 ∷ 8 ∷ [])
 sink_tells_what_fits = refl
 
-full_sink_tells_nothing : told (after_write (new_sink 4 [] 2) (7 ∷ 8 ∷ 9 ∷ []) (Some 3)) ≡ None
+full_sink_tells_nothing :
+    taken_bytes (after_write (new_sink 4 [] 2) (7 ∷ 8 ∷ 9 ∷ []) (Some 3)) ≡ None
 full_sink_tells_nothing = refl
 
 full_sink_keeps_its_room :

@@ -70,8 +70,8 @@ new_sink piece fails room = record {
 }
 
 -- The bytes taken, as long as all of them are kept.
-abbrev pub told : SinkState → Option (List ℕ)
-told sink = if sink.whole then Some sink.kept else None
+abbrev pub taken_bytes : SinkState → Option (List ℕ)
+taken_bytes sink = if sink.whole then Some sink.kept else None
 
 -- How many bytes the next write takes of a piece of this length, or none where it fails.
 abbrev pub write_count : SinkState → ℕ → Option ℕ

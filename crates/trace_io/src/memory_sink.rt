@@ -1,13 +1,13 @@
 ghost use Rattle.std.specs.Prelude.{◌≡◌, ◌≤◌, ◌<◌, ◌+◌, ◌++◌, length, IfOk, vec_len};
 ghost use Rattle.std.specs.Result.{result_ok};
 ghost use Rattle.std.specs.Vec.{vec_capacity};
-ghost use Rattle.trace_io.specs.Memory.{new_sink, told, write_count, after_write};
+ghost use Rattle.trace_io.specs.Memory.{new_sink, taken_bytes, write_count, after_write};
 
 use crate::outside::{Failed, Sink};
 use std::alloc::{AllocError, Global};
 use std::marker::Model;
 
-/// A sink that keeps the bytes in memory, takes a piece at a time and fails when it is told to.
+/// A sink that keeps the bytes in memory, takes a piece at a time and fails when it is taken_bytes to.
 /// Bytes past its room are taken and dropped, and from then on it doesn't tell what it took.
 #[derive(Drop)]
 pub struct MemorySink {
@@ -75,7 +75,7 @@ impl MemorySink {
 }
 
 impl Sink for MemorySink {
-    ghost taken = { told };
+    ghost taken = { taken_bytes };
 
     ghost faults = { λ s. s.faults };
 

@@ -1,6 +1,6 @@
 ghost use Rattle.std.specs.Prelude.{◌≡◌, ◌≤◌, ◌<◌, [], length, IsOk, IfOk, IfSome};
 ghost use Rattle.std.specs.Result.{result_ok};
-ghost use Rattle.trace_io.specs.Memory.{new_sink, told, write_count, after_write};
+ghost use Rattle.trace_io.specs.Memory.{new_sink, taken_bytes, write_count, after_write};
 
 use crate::memory_sink::MemorySink;
 use crate::outside::{Failed, Sink};
@@ -39,14 +39,14 @@ impl SteadySink {
     /// The bytes taken, or the first of them that fit into the room.
     pub fn taken(&self) -> &[u8]
         ensures kept { result.now ≡ self.now.kept }
-        ensures whole { IfSome (told self.now) (λ bytes. result.now ≡ bytes) }
+        ensures whole { IfSome (taken_bytes self.now) (λ bytes. result.now ≡ bytes) }
     {
         self.inner.taken()
     }
 }
 
 impl Sink for SteadySink {
-    ghost taken = { told };
+    ghost taken = { taken_bytes };
 
     ghost faults = { λ _. 0 };
 

@@ -1,5 +1,5 @@
 -- The run lines of a trace, and what holds of them.
-use Rattle.std.specs.Prelude.{◌≡◌, ℕ, ◌^◌, ◌≤◌, ◌<◌, Bool, true, false, List, length, count_by, IsTrue, Option, Some, None, slice_index}
+use Rattle.std.specs.Prelude.{◌≡◌, ℕ, ◌^◌, ◌≤◌, ◌<◌, Bool, true, false, List, [], length, count_by, IsTrue, Option, Some, None, slice_index}
 use Rattle.std.specs.List.{AllByRecursion}
 use Rattle.papr_codes.specs.declared.calls.Hcall.{Hcall}
 use Rattle.papr_codes.specs.declared.calls.Hcall.TheVariants.{Prepare, Commit, PutTce, GetTce}
@@ -7,6 +7,10 @@ use Rattle.papr_codes.specs.Hcalls.{hcall_of, is_named}
 use Rattle.trace_line.specs.declared.act.Act.{Act}
 use Rattle.trace_line.specs.declared.act.Act.TheVariants as acts
 use Rattle.trace_line.specs.declared.line.TraceLine.{TraceLine}
+
+-- What lines hold past their end.
+abbrev pub past_lines : TraceLine
+past_lines = record { number = 0; cpu = 0; act = acts.Call 0 [] false }
 
 -- ---- quiet lines
 -- The two resize calls.

@@ -1,5 +1,5 @@
 -- Entries of the opening table: rising indices, and one more entry.
-use Rattle.std.proofs.Common.{◌≡◌, ◌∙◌, sym, refl, subst, ap, ℕ, zero, suc, ◌-◌, ◌<◌, List, [], ◌∷◌, ◌++◌, Option, Some, None, length, Bool, ◌&&◌, ltb, true, false, eqb, slice_get, arith}
+use Rattle.std.proofs.Common.{◌≡◌, ◌∙◌, sym, refl, subst, ap, ℕ, zero, suc, ◌-◌, ◌<◌, List, [], ◌∷◌, ◌++◌, Option, Some, None, length, ◌&&◌, ltb, true, false, eqb, slice_get, arith}
 use Rattle.std.specs.Option.{option_map_or}
 use Rattle.std.specs.List.{AllByRecursion}
 use Rattle.std.proofs.lemmas.Option.{none-some, same_Some, slice_get_within}
@@ -10,6 +10,7 @@ use Rattle.page_grants.specs.Suited.{entered_words}
 use Rattle.table_image.specs.declared.entry.ImageEntry.{ImageEntry}
 use Rattle.trace_read.specs.Configuration.{AreRising, AreOpeningEntries, IsOpeningEntry}
 use Rattle.trace_read.specs.Entries.{is_above, is_stored}
+use Rattle.std.proofs.Math.Bool.{and-true}
 
 -- What holds of each and of one more.
 pub all_push : {A : Type 0} (P : A → Type 0) (xs : List A) (x : A) → AllByRecursion P xs → P x
@@ -45,16 +46,12 @@ each_at P [] i e each is = absurd (none-some e is)
 each_at P (d ∷ ds) zero e each is = subst P (same_Some d e is) each.0
 each_at P (d ∷ ds) (suc i) e each is = each_at P ds i e each.1 is
 
-and_true : (b : Bool) → (b && true) ≡ b
-and_true true = refl
-and_true false = refl
-
 -- The last of rising entries has the highest index.
 above_at : (es : List ImageEntry) (n : ℕ) (last : ImageEntry) (i : ℕ) → AreRising es
     → length es ≡ suc n → slice_get es n ≡ Some last → ltb last.index i ≡ is_above es i
 above_at [] n last i rising size is = absurd (none-some last is)
 above_at (d ∷ []) zero last i rising size is =
-    rw (← same_Some d last is) (sym (and_true (ltb d.index i)))
+    rw (← same_Some d last is) (sym (and-true (ltb d.index i)))
 above_at (d ∷ []) (suc n) last i rising size is = absurd (none-some last is)
 above_at (d ∷ e ∷ es) zero last i rising size is = absurd (omega (arith, size))
 above_at (d ∷ e ∷ es) (suc n) last i rising size is =

@@ -14,6 +14,8 @@ use Rattle.frame_grants.specs.declared.grant.Grant.{Grant}
 use Rattle.page_grants.specs.Suited.{suits_size, suits_grants, suited_words, entered_words}
 
 -- ---- what is stored as it is
+-- H_ENTER stores these doublewords just as they are: they are legal ones, and a grant suits the
+-- page that they map.
 pub record AreStored (grants : List Grant) (dword0 dword1 : ℕ) : Type 0 where
   pub legal : (nat_lt 1 (segment_code dword0) || is_none (size_of dword0 dword1)) ≡ false
   pub first : stored_first dword0 ≡ dword0

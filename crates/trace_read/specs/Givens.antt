@@ -76,6 +76,6 @@ refused_grant whys.Tables ws = line_grant ws
 refused_grant other ws = None
 
 -- What is told of a line with these words that stops for this.
-abbrev pub told : Stop → List (List ℕ) → LineRefused
-told stops.Memory ws = refusals.Memory
-told (stops.Refused why) ws = refusals.Refused why (refused_grant why ws)
+abbrev pub refused_by : Stop → List (List ℕ) → LineRefused
+refused_by stops.Memory ws = refusals.Memory
+refused_by (stops.Refused why) ws = refusals.Refused why (refused_grant why ws)

@@ -4,7 +4,7 @@ ghost use Rattle.trace_read.specs.TextLines.{texts};
 ghost use Rattle.trace_read.specs.Acts.{number_at, arguments_from, mode_at, act_by, read_act, dump_act};
 ghost use Rattle.trace_line.specs.Lines.{IsSpelt};
 
-use crate::forms::{Form, is};
+use crate::forms::{Form, is_name};
 use crate::numbers::number;
 use crate::verbs::Verb;
 use crate::why::Why;
@@ -47,9 +47,9 @@ fn mode_at(words: &[&[u8]], i: usize) -> Result<bool, Why>
     ensures { result ≡ mode_at (texts words.now) i }
 {
     let word = word_at(words, i);
-    if is(word, "user") {
+    if is_name(word, "user") {
         Ok(true)
-    } else if is(word, "priv") {
+    } else if is_name(word, "priv") {
         Ok(false)
     } else {
         Err(Why::Mode)

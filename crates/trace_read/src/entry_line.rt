@@ -3,7 +3,7 @@ ghost use Rattle.table_image.specs.Layouts.{entry_words};
 ghost use Rattle.trace_read.specs.Configuration.{AreRising};
 ghost use Rattle.trace_read.specs.Entries as line;
 
-use crate::forms::is;
+use crate::forms::is_name;
 use frame_grants::Grants;
 use page_grants::entered_words;
 use table_image::{ImageEntry, Layout, words_of};
@@ -12,9 +12,9 @@ use table_image::{ImageEntry, Layout, words_of};
 pub fn layout_named(word: &[u8]) -> Option<Layout>
     ensures { result ≡ line.layout_named word.now }
 {
-    if is(word, "old") {
+    if is_name(word, "old") {
         Some(Layout::Old)
-    } else if is(word, "new") {
+    } else if is_name(word, "new") {
         Some(Layout::New)
     } else {
         None

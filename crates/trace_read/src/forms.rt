@@ -43,7 +43,7 @@ impl Form {
 }
 
 /// Whether a word is this name.
-pub fn is(word: &[u8], name: &str) -> bool
+pub fn is_name(word: &[u8], name: &str) -> bool
     ensures { result ≡ bytes_eq name.now word.now }
 {
     name.as_bytes() == word
@@ -64,25 +64,25 @@ fn named_form(word: &[u8]) -> Option<Form>
     ensures form { result ≡ form_named word.now }
     ensures named { IfSome result IsNamedForm }
 {
-    if is(word, "order") {
+    if is_name(word, "order") {
         Some(Form::Order)
-    } else if is(word, "limit") {
+    } else if is_name(word, "limit") {
         Some(Form::Limit)
-    } else if is(word, "cpus") {
+    } else if is_name(word, "cpus") {
         Some(Form::Cpus)
-    } else if is(word, "pool") {
+    } else if is_name(word, "pool") {
         Some(Form::Pool)
-    } else if is(word, "ram") {
+    } else if is_name(word, "ram") {
         Some(Form::Grant(Kind::Ram))
-    } else if is(word, "io") {
+    } else if is_name(word, "io") {
         Some(Form::Grant(Kind::Io))
-    } else if is(word, "entry") {
+    } else if is_name(word, "entry") {
         Some(Form::Entry)
-    } else if is(word, "window") {
+    } else if is_name(word, "window") {
         Some(Form::Window)
-    } else if is(word, "begin") {
+    } else if is_name(word, "begin") {
         Some(Form::Begin)
-    } else if is(word, "dump") {
+    } else if is_name(word, "dump") {
         Some(Form::Dump)
     } else {
         None

@@ -51,8 +51,8 @@ fn refused_grant(why: Why, words: &[&[u8]]) -> Option<Grant>
 }
 
 /// What is told of a line with these words that stops for this.
-pub fn told(stop: Stop, words: &[&[u8]]) -> LineRefused
-    ensures { result ≡ line.told stop (texts words.now) }
+pub fn refused_by(stop: Stop, words: &[&[u8]]) -> LineRefused
+    ensures { result ≡ line.refused_by stop (texts words.now) }
 {
     match stop {
         Stop::Memory => LineRefused::Memory,

@@ -17,7 +17,7 @@ use crate::acts::{dump_act, read_act};
 use crate::counted::CountedLines;
 use crate::forms::{Form, line_form};
 use crate::given::{Given, LineRefused};
-use crate::grant_line::{grant_named, told};
+use crate::grant_line::{grant_named, refused_by};
 use crate::lines::is_remark_line;
 use crate::settings::Settings;
 use crate::stage::Stage;
@@ -140,7 +140,7 @@ impl Reader {
         }
         match self.take_words(number, words) {
             Ok(given) => Ok(given),
-            Err(stop) => Err(told(stop, words)),
+            Err(stop) => Err(refused_by(stop, words)),
         }
     }
 

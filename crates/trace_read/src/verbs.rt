@@ -2,7 +2,7 @@ ghost use Rattle.std.specs.Prelude.{◌≡◌, IfSome};
 ghost use Rattle.trace_read.specs.Forms.{call_named, other_verb, verb_of, IsNamedRow, IsNamedVerb};
 ghost use Rattle.trace_read.specs.Acts.{takes};
 
-use crate::forms::is;
+use crate::forms::is_name;
 use authority_mask::MaskName;
 use papr_codes::Hcall;
 use storage_prot::Want;
@@ -70,25 +70,25 @@ fn other(word: &[u8]) -> Option<Verb>
     ensures verb { result ≡ other_verb word.now }
     ensures named { IfSome result IsNamedVerb }
 {
-    if is(word, "hcall") {
+    if is_name(word, "hcall") {
         Some(Verb::Numbered)
-    } else if is(word, "load") {
+    } else if is_name(word, "load") {
         Some(Verb::Access(Want::Load))
-    } else if is(word, "store") {
+    } else if is_name(word, "store") {
         Some(Verb::Access(Want::Store))
-    } else if is(word, "fetch") {
+    } else if is_name(word, "fetch") {
         Some(Verb::Access(Want::Fetch))
-    } else if is(word, "dmaread") {
+    } else if is_name(word, "dmaread") {
         Some(Verb::Device { write: false })
-    } else if is(word, "dmawrite") {
+    } else if is_name(word, "dmawrite") {
         Some(Verb::Device { write: true })
-    } else if is(word, "slbmte") {
+    } else if is_name(word, "slbmte") {
         Some(Verb::SlbMte)
-    } else if is(word, "slbclear") {
+    } else if is_name(word, "slbclear") {
         Some(Verb::SlbClear)
-    } else if is(word, "amr") {
+    } else if is_name(word, "amr") {
         Some(Verb::SetMask(MaskName::Amr))
-    } else if is(word, "iamr") {
+    } else if is_name(word, "iamr") {
         Some(Verb::SetMask(MaskName::Iamr))
     } else {
         None

@@ -1,4 +1,4 @@
 pub mod Replies
 pub mod ReplyList
 pub mod ShownTable
-pub mod Places
+pub mod Slots

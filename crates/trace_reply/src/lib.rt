@@ -6,12 +6,12 @@
 //! cause for which it doesn't. All three carry the receipts of their operations on entries.
 #![tactic(auto)]
 
-mod place;
 mod replies;
 mod reply;
 mod shown;
+mod slot;
 
-pub use place::{ReplyEnd, ReplyPlace};
 pub use replies::Replies;
 pub use reply::Reply;
 pub use shown::{Shown, ShownStates};
+pub use slot::{ReplyEnd, ReplySlot};

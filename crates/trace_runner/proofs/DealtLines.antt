@@ -5,12 +5,12 @@ use Rattle.std.specs.List.{AllByRecursion}
 use Rattle.std.proofs.lemmas.Bool.{cases_Bool, eq-eqb}
 use Rattle.std.proofs.lemmas.List.{get_or_default, get_or-map, length-map, map-append, take_all}
 use Rattle.trace_line.specs.declared.line.TraceLine.{TraceLine}
-use Rattle.trace_line.specs.declared.act.Act.TheVariants.{Call}
 use Rattle.trace_runner.specs.Workers.{lines_of_cpu, count_with_lines, IsReadAt, AreOwn, AllNumbered}
 use Rattle.trace_runner.specs.DealtLines.{AreDealt, AllEmpty, count_with_own}
 use Rattle.trace_runner.proofs.Numbered.{all_set, all_weaker}
 use Rattle.run_model.proofs.StoreNumbers.{not_eqb}
 use Rattle.trace_runner.proofs.WorkSteps.{own_more, own_same}
+use Rattle.trace_line.specs.Lines.{past_lines}
 
 -- ---- lines at indices
 inside_push :
@@ -44,16 +44,13 @@ line_at lines indices own k d low h =
     ap (λ ls. get_or ls k d) (sym (h.read d))
     ∙ get_or-map (λ i. slice_index_or lines i d) indices k 0 d low
 
--- what a read past the end would give
-abbrev pub past : TraceLine
-past = record { number = 0; cpu = 0; act = Call 0 [] false }
-
 pub as_many :
     (lines : List TraceLine) (indices : List ℕ) (own : List TraceLine)
     → IsReadAt lines indices own
     → length indices ≡ length own
 as_many lines indices own h =
-    sym (length-map indices (λ i. slice_index_or lines i past)) ∙ ap length (h.read past)
+    sym (length-map indices (λ i. slice_index_or lines i past_lines))
+    ∙ ap length (h.read past_lines)
 
 -- ---- the lines of one processor are its own
 pub all_own :

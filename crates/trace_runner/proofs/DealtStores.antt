@@ -8,23 +8,18 @@ use Rattle.bus_window.specs.Windows.{BusWindow}
 use Rattle.trace_line.specs.declared.line.TraceLine.{TraceLine}
 use Rattle.trace_line.specs.Lines.{is_quiet}
 use Rattle.run_model.specs.StoreNumbers.{store_of, lines_on_store}
-use Rattle.run_model.proofs.Each.{each_filter}
+use Rattle.basics.proofs.Each.{each_filter}
 use Rattle.run_model.proofs.StoreNumbers.{not_eqb}
-use Rattle.trace_runner.specs.DealtLines.{AllEmpty, AreOnStores}
+use Rattle.trace_runner.specs.DealtLines.{AreOnStores}
 use Rattle.trace_runner.specs.StoreRuns.{AreRunnable}
 use Rattle.trace_runner.specs.Workers.{AllNumbered}
 use Rattle.trace_runner.proofs.Numbered.{all_set}
 
+-- Each store was dealt its own of the first k lines, in file order.
 abbrev pub AreUpTo :
     {Z : Type 0} → List BusWindow → ℕ → List TraceLine → List (Vec TraceLine Z) → Type 0
 AreUpTo ws k lines dealt =
     AllNumbered (λ store own. own.items ≡ lines_on_store ws store (take k lines)) 0 dealt
-
-pub stores_none :
-    {Z : Type 0} (ws : List BusWindow) (lines : List TraceLine) (dealt : List (Vec TraceLine Z))
-    → AllEmpty dealt
-    → AreUpTo ws 0 lines dealt
-stores_none ws lines dealt h = h
 
 pub stores_more :
     {Z : Type 0} (ws : List BusWindow) (lines : List TraceLine) (k : ℕ) (d : TraceLine)

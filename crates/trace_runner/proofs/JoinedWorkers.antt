@@ -83,13 +83,6 @@ share_count :
 share_count table None h = refl
 share_count table (Some pass) h = h.1
 
-pub own_of :
-    (table : LockTable) (o : Option Pass)
-    → IfSome o (λ pass. IsOf table pass × (pass.shares ≡ 1))
-    → IfSome o (IsOf table)
-own_of table None h = tt
-own_of table (Some pass) h = h.0
-
 pub first_passes :
     {L : Type 0} (table : LockTable) (rest more : List (Worker L)) (w : Worker L)
     → rest ≡ w ∷ more
@@ -207,34 +200,6 @@ pair_both table one other both j = record {
       → IsSeen (view_of both).actor.lines opening line
   seen opening line (inl g) = seen_left _ _ _ opening line j.lines g
   seen opening line (inr g) = seen_right _ _ _ opening line j.lines g
-
-pub pair_one :
-    (table : LockTable) (one : Option Pass)
-    → IfSome one (IsOf table)
-    → IsPairJoined table one None one
-pair_one table one h = record {
-  of = h;
-  shares = omega arith;
-  made = sym (append-nil (made_in one));
-  gone = λ line k. no_more (λ x. x) k;
-  seen = λ opening line k. no_more (λ x. x) k;
-}
-
-none_left : {A B : Type 0} → (A → ⊥) → A ⊎ B → B
-none_left f (inl a) = absurd (f a)
-none_left f (inr b) = b
-
-pub pair_other :
-    (table : LockTable) (other : Option Pass)
-    → IfSome other (IsOf table)
-    → IsPairJoined table None other other
-pair_other table other h = record {
-  of = h;
-  shares = omega arith;
-  made = refl;
-  gone = λ line k. none_left (λ x. x) k;
-  seen = λ opening line k. none_left (λ x. x) k;
-}
 
 -- ---- what is taken out
 pub map_more :

@@ -1,6 +1,6 @@
 -- The replies of all stores, put in file order.
 use Rattle.std.specs.Prelude.{Vec}
-use Rattle.std.proofs.Common.{◌≡◌, ◌≢◌, ℕ, zero, suc, ◌+◌, ◌<◌, ◌≤◌, List, [], ◌∷◌, ◌++◌, length, take, drop, get_or, set, cond, Bool, true, false, ap, sym, ◌∙◌, refl, subst, eqb, arith, append_assoc, append-nil}
+use Rattle.std.proofs.Common.{◌≡◌, ◌≢◌, ℕ, ◌+◌, ◌<◌, ◌≤◌, List, [], ◌∷◌, ◌++◌, length, take, drop, get_or, set, cond, Bool, true, false, ap, sym, ◌∙◌, refl, subst, eqb, arith, append_assoc, append-nil}
 use Rattle.std.specs.List.{AllByRecursion}
 use Rattle.std.proofs.lemmas.Bool.{eqb-true, eq-eqb, eqb-false}
 use Rattle.std.proofs.lemmas.List.{drop_more, take_more, drop_all, take_all, get_or-set_same, get_or-set_other, length-set}
@@ -81,6 +81,8 @@ keep_after keeps logs after l rest x ss rs first new h =
     }
 
 -- ---- so far
+-- The replies to the first k lines are in the output. With those that are left for each processor
+-- on each store, which the logs still keep, they are all that were picked for it.
 pub record Merging {L O Z : Type 0} (keeps : Keeping L) (has : Keeping O) (ws : List BusWindow)
     (lines : List TraceLine) (k : ℕ) (picks : ℕ → ℕ → List Reply) (logs : List (Vec L Z))
     (old new : O) :
@@ -317,13 +319,3 @@ merging_all keeps has ws lines k picks logs old new end m =
             (m.rest store cpu) to) none (m.told store cpu)));
       };
     }
-
--- What each of a list has, the one at an index has.
-pub each_at :
-    {A : Type 0} (P : A → Type 0) (xs : List A) (i : ℕ) (d : A)
-    → AllByRecursion P xs
-    → i < length xs
-    → P (get_or xs i d)
-each_at P [] i d h k = absurd (omega arith)
-each_at P (x ∷ xs) zero d h k = h.0
-each_at P (x ∷ xs) (suc i) d h k = each_at P xs i d h.1 (omega arith)

@@ -103,6 +103,7 @@ ok_output has t s lines (Ok output) is opening same h =
 ok_output has t s lines (Err e) is opening same h = tt
 
 -- ---- replies that are kept whole
+-- The list of replies has just these, whatever the lines are.
 abbrev pub has_items : Keeping ReplyList
 has_items = λ replies ls rs. replies.items ≡ rs
 

@@ -156,6 +156,7 @@ module _ {L : Type 0} (keeps : Keeping L) (set : StoreContext) (table : LockTabl
   processors_are n [] h = refl
   processors_are n (w ∷ ws) h = (λ j. part_processor n w h.0 j ∷ processors_are (suc n) ws h.1 j)
 
+  -- The fronts of a processor's pass; where it has none the opening ones.
   abbrev pub fronts_in : Option Pass → List ℕ
   fronts_in None = opening_fronts a
   fronts_in (Some p) = (view_of p).fronts

@@ -23,7 +23,7 @@ use Rattle.run_model.specs.Processors.{processor_at, processor_after}
 use Rattle.run_model.specs.Histories.{lines_of_processor, receipts_by, receipts_from_processor}
 use Rattle.run_model.specs.Sections.{processors_after_lines, Section, made_in as made_by}
 use Rattle.run_model.specs.ParallelRun.{Works, AllWork, RunsApart}
-use Rattle.run_model.proofs.Each.{each_append}
+use Rattle.basics.proofs.Each.{each_append}
 use Rattle.trace_runner.specs.declared.worker.Worker.{Worker}
 use Rattle.trace_runner.specs.Workers.{Keeping, lines_of_cpu, replied_lines_of_cpu, processors_before, AllNumbered}
 use Rattle.trace_runner.proofs.Numbered.{all_of}

@@ -15,7 +15,7 @@ use Rattle.run_model.specs.QuietLines.{run_quiet_line}
 use Rattle.run_model.specs.Sections.{section_end_on, quiet_on, after_quiet}
 use Rattle.run_model.specs.SerialRun.{run_on, run_line, first_store}
 use Rattle.run_model.specs.Stores.{Store, is_on, lines_on}
-use Rattle.run_model.proofs.Each.{each_by_index}
+use Rattle.basics.proofs.Each.{each_by_index, each_within}
 use Rattle.run_model.proofs.SerialGood.{quiet_kind}
 use Rattle.run_model.proofs.StoreLines.{quiet_on_table, quiet_off_window}
 use Rattle.run_model.proofs.TableNamed.{after_window, quiet_window}
@@ -24,7 +24,6 @@ use Rattle.run_model.specs.StoreNumbers.{store_at, AreNamed}
 use Rattle.trace_runner.specs.StoreRuns.{SectionLeaves}
 use Rattle.trace_runner.specs.Sectioned.{Sectioned, HasGrown, RunsSection, HasRunFrom, Runs}
 use Rattle.trace_runner.specs.Workers.{Keeping, replied_line}
-use Rattle.trace_runner.proofs.MergedReplies.{each_at}
 use Rattle.trace_runner.proofs.PartsOfLines.{part, skip, rest_is, front_is, part_end}
 use Rattle.run_model.proofs.StoreSerial.{quiet_is}
 use Rattle.run_model.proofs.StoreNumbers.{same_count, stores_count}
@@ -297,7 +296,7 @@ module _ (s later : AllStores) (ls : List TraceLine) (news : List Reply) (named 
           (omega (arith, inside, many))) in
           store_goes ws ts t (cut tr) (store_at s number) (store_at later number)
           (store_at after number) (h.leaves named number inside) quiet
-          (each_at (RunsFrom ws (cut tr).0 (cut tr).1) (all_stores after) number after.table
+          (each_within (RunsFrom ws (cut tr).0 (cut tr).1) (all_stores after) number after.table
           behind (omega (arith, inside, many, many', stores_count after)))
 
 pub done_more :

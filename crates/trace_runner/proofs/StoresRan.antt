@@ -284,6 +284,7 @@ table_alone {L = L} {Z = Z} keeps s later lines logs own none empty r =
 -- ---- their replies
 module _ {L Z : Type 0} (keeps : Keeping L) (s : AllStores) (lines : List TraceLine)
     (later : AllStores) (logs : List (Vec L Z)) (r : RanStores keeps s lines later logs) where
+  -- The windows of these stores.
   abbrev pub ws : List BusWindow
   ws = windows_in s.windows
 

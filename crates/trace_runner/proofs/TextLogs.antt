@@ -1,7 +1,7 @@
 -- Logs of texts.
-use Rattle.std.proofs.Common.{◌≡◌, ℕ, ◌+◌, ◌-◌, ◌*◌, ◌/◌, ◌<◌, ◌≤◌, min, Result, Ok, Err, is_ok, OnOk, List, [], ◌∷◌, ◌++◌, length, take, drop, true, false, refl, ap, sym, ◌∙◌, subst, arith, append_assoc, append-nil}
+use Rattle.std.proofs.Common.{◌≡◌, ℕ, ◌+◌, ◌-◌, ◌/◌, ◌<◌, ◌≤◌, min, Result, Ok, Err, is_ok, OnOk, List, [], ◌∷◌, ◌++◌, length, take, drop, true, false, refl, ap, sym, ◌∙◌, subst, arith, append_assoc, append-nil}
 use Rattle.std.specs.Str.{IsUtf8, IsCharBoundary}
-use Rattle.std.proofs.lemmas.Str.{IsCharBoundary-from_take, IsUtf8-nil}
+use Rattle.std.proofs.lemmas.Str.{IsCharBoundary-from_take}
 use Rattle.std.proofs.lemmas.List.{length-append}
 use Rattle.trace_line.specs.declared.line.TraceLine.{TraceLine}
 use Rattle.trace_line.specs.declared.act.Act.{Act}
@@ -57,9 +57,6 @@ keeps_more bytes more ends next start end ls rs l r put utf8 at pushed h = recor
       (ap (λ n. ends ++ n ∷ []) (sym at) ∙ sym pushed)
       (ends_more h.front bytes more ends ls rs l r put utf8 h.texts);
 }
-
-pub keeps_none : (start : ℕ) → start ≡ 0 → KeepsText [] [] start [] []
-keeps_none start e = record { front = []; begins = e; cut = IsUtf8-nil; texts = refl }
 
 -- ---- the first one
 -- The texts stand behind the front.
@@ -170,13 +167,6 @@ pub room_after :
     → d ≤ 1 + e
     → min ((cap - len) / 1024) d ≤ 1 + min ((more - size) / 1024) e
 room_after cap len more size d e a b c = omega (arith, a, b, c)
-
-pub room_made :
-    (lines cap len d : ℕ)
-    → lines * 1024 + len ≤ cap
-    → lines ≤ d
-    → lines ≤ min ((cap - len) / 1024) d
-room_made lines cap len d a b = omega (arith, a, b)
 
 -- ---- texts of many
 text_more :

@@ -13,6 +13,7 @@ use Rattle.trace_runner.specs.Workers.{Keeping, IsReady, IsDone, AllNumbered, pr
 use Rattle.trace_runner.specs.WorkerGroup.{IsReadyGroup, RunsGroup}
 use Rattle.trace_runner.proofs.Numbered.{all_append, all_front, all_back}
 
+-- The worker has a pass to work with; one that is idle has none.
 abbrev pub has_pass : {L : Type 0} → Worker L → Bool
 has_pass w = is_some w.pass
 

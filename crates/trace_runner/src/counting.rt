@@ -15,7 +15,7 @@ use reply_text::Counts;
 use std::alloc::{AllocError, Global};
 use trace_line::TraceLine;
 use trace_read::Trace;
-use trace_reply::{ReplyPlace, Shown};
+use trace_reply::{ReplySlot, Shown};
 
 /// What a summary counts of the replies of a run, and the table at its end.
 #[derive(Drop)]
@@ -46,10 +46,10 @@ fn count_lines(
         run.table ≡ shown_of (table_end machine.old lines.now).memory) }
 {
     let mut counts = Counts::new();
-    let mut place = ReplyPlace::new();
+    let mut slot = ReplySlot::new();
     for line in lines {
-        machine.line(alloc, line, &mut place)?;
-        counts.add_place(&place);
+        machine.line(alloc, line, &mut slot)?;
+        counts.add_slot(&slot);
     }
     let table = machine.shown(alloc)?;
     Ok(CountedRun { counts, table })

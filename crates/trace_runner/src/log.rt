@@ -4,11 +4,11 @@ ghost use Rattle.trace_line.specs.declared.line.TraceLine.{TraceLine as LineOf};
 ghost use Rattle.trace_line.specs.Lines.{is_quiet};
 ghost use Rattle.trace_reply.specs.declared.reply.Reply.{Reply};
 ghost use Rattle.trace_reply.specs.Replies.{IsOfKind};
-ghost use Rattle.trace_reply.specs.Places.{reply_in};
+ghost use Rattle.trace_reply.specs.Slots.{reply_in};
 
 use std::alloc::{AllocError, Global};
 use trace_line::TraceLine;
-use trace_reply::ReplyPlace;
+use trace_reply::ReplySlot;
 
 /// What a worker keeps of the replies to its lines, in room that was made before.
 pub trait ReplyLog {
@@ -18,15 +18,15 @@ pub trait ReplyLog {
     /// How many further replies it has room for.
     ghost room: { Self → ℕ };
 
-    /// Keeps the reply that has the place behind the others. It can't fail. What has the place then
+    /// Keeps the reply in the slot behind the others. It can't fail. What is in the slot then
     /// is left open.
-    fn keep(&mut self, line: &TraceLine, place: &mut ReplyPlace)
+    fn keep(&mut self, line: &TraceLine, slot: &mut ReplySlot)
         requires room { 0 < room self.old }
-        requires kind { IsOfKind line.now.act (reply_in place.old) }
+        requires kind { IsOfKind line.now.act (reply_in slot.old) }
         requires not_quiet { is_quiet line.now.act ≡ false }
         ensures kept { (ls : List LineOf) (rs : List Reply)
             → keeps self.old ls rs
-            → keeps self.new (ls ++ line.now ∷ []) (rs ++ reply_in place.old ∷ []) }
+            → keeps self.new (ls ++ line.now ∷ []) (rs ++ reply_in slot.old ∷ []) }
         ensures room { room self.old ≤ 1 + room self.new };
 }
 
@@ -47,17 +47,17 @@ pub trait RunLog: ReplyLog + Send + Drop {
     fn output(alloc: Global, lines: usize) -> Result<Self::Output, AllocError>
         ensures { IfOk result (λ output. has output [] []) };
 
-    /// Puts the reply that has the place behind those of the output.
+    /// Puts the reply in the slot behind those of the output.
     fn put(
         output: &mut Self::Output,
         line: &TraceLine,
-        place: &mut ReplyPlace,
+        slot: &mut ReplySlot,
     ) -> Result<(), AllocError>
         ensures { OnOk
             result
             ((ls : List LineOf) (rs : List Reply)
             → has output.old ls rs
-            → has output.new (ls ++ line.now ∷ []) (rs ++ reply_in place.old ∷ [])) };
+            → has output.new (ls ++ line.now ∷ []) (rs ++ reply_in slot.old ∷ [])) };
 
     /// Moves the first reply behind those of the output.
     fn move_first(&mut self, output: &mut Self::Output) -> Result<(), AllocError>

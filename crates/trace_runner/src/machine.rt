@@ -4,7 +4,7 @@ ghost use Rattle.run_model.specs.QuietLines.{run_quiet_line, run_resize, shown_o
 ghost use Rattle.run_model.specs.AllStores.{opening_all, windows_in};
 ghost use Rattle.run_model.specs.SerialRun.{run_on};
 ghost use Rattle.trace_runner.specs.MachineState.{RunsLine};
-ghost use Rattle.trace_reply.specs.Places.{reply_in};
+ghost use Rattle.trace_reply.specs.Slots.{reply_in};
 ghost use Rattle.run_model.specs.StoreNumbers.{index_from};
 
 use crate::act::run_alone;
@@ -17,7 +17,7 @@ use std::alloc::{AllocError, Global};
 use std::marker::Model;
 use trace_line::{Act, TraceLine};
 use trace_read::Config;
-use trace_reply::{Reply, ReplyPlace, Shown};
+use trace_reply::{Reply, ReplySlot, Shown};
 use vcpu::{Cpu, clear_caches, empty_cpus};
 
 /// A partition with its processors and its DMA windows, between two lines.
@@ -64,13 +64,13 @@ impl Machine {
         &mut self,
         alloc: Global,
         line: &TraceLine,
-        place: &mut ReplyPlace,
+        slot: &mut ReplySlot,
     ) -> Result<(), AllocError>
         requires cpu { line.now.cpu < length self.old.table.processors }
         requires number { self.old.table.memory.table.number < 2 ^ 32 - 1 }
         ensures reply { OnOk
             result
-            (RunsLine self.old line.now (reply_in place.new) self.new) }
+            (RunsLine self.old line.now (reply_in slot.new) self.new) }
         ensures number { OnOk
             result
             (self.new.table.memory.table.number ≤ self.old.table.memory.table.number + 1) }
@@ -80,11 +80,11 @@ impl Machine {
         ensures windows { OnOk result (windows_in self.new.windows ≡ windows_in self.old.windows) }
     {
         if line.act.is_quiet() {
-            return self.quiet(alloc, &line.act, place);
+            return self.quiet(alloc, &line.act, slot);
         }
         match window_of(self.windows.as_slice(), &line.act) {
-            Some(at) => self.run_on_window(at, line, place),
-            None => self.run(line, place),
+            Some(at) => self.run_on_window(at, line, slot),
+            None => self.run(line, slot),
         }
         Ok(())
     }
@@ -100,10 +100,10 @@ impl Machine {
 
     // A line that isn't quiet and names no window, by its processor.
     #[tactic(auto, unfolding(run_model::specs::SerialRun::run_on))]
-    fn run(&mut self, line: &TraceLine, place: &mut ReplyPlace)
+    fn run(&mut self, line: &TraceLine, slot: &mut ReplySlot)
         requires not_quiet { is_quiet line.now.act ≡ false }
         requires cpu { line.now.cpu < length self.old.table.processors }
-        ensures reply { (reply_in place.new, self.new.table) ≡ run_on self.old.table line.now }
+        ensures reply { (reply_in slot.new, self.new.table) ≡ run_on self.old.table line.now }
         ensures number { self.new.table.memory.table.number ≡ self.old.table.memory.table.number }
         ensures cpus { length self.new.table.processors ≡ length self.old.table.processors }
         ensures windows { self.new.windows ≡ self.old.windows }
@@ -115,29 +115,29 @@ impl Machine {
             grants: self.partition.grants(),
             window: None,
         };
-        run_alone(&mut table, cpu, &around, &line.act, place);
+        run_alone(&mut table, cpu, &around, &line.act, slot);
         self.partition.put_states(table.close());
     }
 
     // A line on the window at this index, the first that it names.
-    fn run_on_window(&mut self, at: usize, line: &TraceLine, place: &mut ReplyPlace)
+    fn run_on_window(&mut self, at: usize, line: &TraceLine, slot: &mut ReplySlot)
         requires first { index_from 0 self.old.windows line.now.act ≡ Some at }
-        ensures reply { RunsLine self.old line.now (reply_in place.new) self.new }
+        ensures reply { RunsLine self.old line.now (reply_in slot.new) self.new }
         ensures table { self.new.table ≡ self.old.table }
         ensures windows { windows_in self.new.windows ≡ windows_in self.old.windows }
     {
-        self.windows[at].line(self.partition.grants(), &line.act, place);
+        self.windows[at].line(self.partition.grants(), &line.act, slot);
     }
 
     // A quiet line. These are rare, so other lines make no room for what this holds.
     #[inline(never)]
     #[tactic(auto, unfolding(run_model::specs::QuietLines::run_quiet_line, trace_line::specs::Lines::is_quiet))]
-    fn quiet(&mut self, alloc: Global, act: &Act, place: &mut ReplyPlace) -> Result<(), AllocError>
+    fn quiet(&mut self, alloc: Global, act: &Act, slot: &mut ReplySlot) -> Result<(), AllocError>
         requires quiet { is_quiet act.now ≡ true }
         requires number { self.old.table.memory.table.number < 2 ^ 32 - 1 }
         ensures named { self.old.table.window ≡ None }
         ensures reply { OnOk result
-            ((reply_in place.new, self.new.table) ≡ run_quiet_line self.old.table act.now) }
+            ((reply_in slot.new, self.new.table) ≡ run_quiet_line self.old.table act.now) }
         ensures number { OnOk
             result
             (self.new.table.memory.table.number ≤ self.old.table.memory.table.number + 1) }
@@ -149,9 +149,9 @@ impl Machine {
         match *act {
             Act::Call { number, args, .. } => {
                 let reply = self.resize(alloc, Hcall::of_number(number), &args)?;
-                place.put(Reply::Hcall(reply));
+                slot.put(Reply::Hcall(reply));
             }
-            _ => place.put(Reply::Dump(self.shown(alloc)?)),
+            _ => slot.put(Reply::Dump(self.shown(alloc)?)),
         }
         Ok(())
     }

@@ -27,7 +27,7 @@ use std::sync::Wait;
 use std::thread::Threads;
 use trace_line::TraceLine;
 use trace_read::Trace;
-use trace_reply::{Replies, ReplyPlace};
+use trace_reply::{Replies, ReplySlot};
 
 /// Runs the lines of a section, on each store in a thread for each processor that has some there,
 /// and puts the replies behind those of the output.
@@ -73,9 +73,9 @@ fn section_to_quiet<R: Threads + Wait + Sync, G: Gate + Sync, L: RunLog>(
         (λ later. RunsToQuiet L.has machine lines.now quiet.now output.old output.new later) }
 {
     let mut later = section::<R, G, L>(rt, alloc, machine, gate, lines, output)?;
-    let mut place = ReplyPlace::new();
-    later.line(alloc, quiet, &mut place)?;
-    L::put(output, quiet, &mut place)?;
+    let mut slot = ReplySlot::new();
+    later.line(alloc, quiet, &mut slot)?;
+    L::put(output, quiet, &mut slot)?;
     Ok(later)
 }
 

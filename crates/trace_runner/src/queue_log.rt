@@ -8,7 +8,7 @@ use std::alloc::{AllocError, Global};
 use std::collections::VecDeque;
 use std::mem;
 use trace_line::TraceLine;
-use trace_reply::{Replies, Reply, ReplyPlace};
+use trace_reply::{Replies, Reply, ReplySlot};
 
 /// The replies themselves.
 #[derive(Drop)]
@@ -21,8 +21,8 @@ impl ReplyLog for ReplyQueue {
 
     ghost room = { λ log. deque_capacity log.replies - deque_len log.replies };
 
-    fn keep(&mut self, _line: &TraceLine, place: &mut ReplyPlace) {
-        let full = mem::replace(place, ReplyPlace::new());
+    fn keep(&mut self, _line: &TraceLine, slot: &mut ReplySlot) {
+        let full = mem::replace(slot, ReplySlot::new());
         self.replies.push_back_reserved(full.into_reply());
     }
 }
@@ -46,9 +46,9 @@ impl RunLog for ReplyQueue {
     fn put(
         replies: &mut Replies,
         _line: &TraceLine,
-        place: &mut ReplyPlace,
+        slot: &mut ReplySlot,
     ) -> Result<(), AllocError> {
-        let full = mem::replace(place, ReplyPlace::new());
+        let full = mem::replace(slot, ReplySlot::new());
         replies.push(full.into_reply())
     }
 

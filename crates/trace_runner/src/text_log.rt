@@ -4,11 +4,11 @@ ghost use Rattle.std.specs.VecDeque.{deque_len, deque_capacity};
 ghost use Rattle.trace_runner.specs.TextLog.{text_room, KeepsText, HasText};
 
 use crate::log::{ReplyLog, RunLog};
-use reply_text::{REPLY_ROOM, put_place};
+use reply_text::{REPLY_ROOM, put_slot};
 use std::alloc::{AllocError, Global};
 use std::collections::VecDeque;
 use trace_line::TraceLine;
-use trace_reply::ReplyPlace;
+use trace_reply::ReplySlot;
 
 /// Room in the text of a run for the line of a common reply. Longer texts make theirs as they grow.
 const COMMON_ROOM: usize = 128;
@@ -32,8 +32,8 @@ impl ReplyLog for ReplyText {
         (deque_capacity log.ends)
         (deque_len log.ends) };
 
-    fn keep(&mut self, line: &TraceLine, place: &mut ReplyPlace) {
-        put_place(&mut self.text, line, place).unwrap();
+    fn keep(&mut self, line: &TraceLine, slot: &mut ReplySlot) {
+        put_slot(&mut self.text, line, slot).unwrap();
         self.ends.push_back_reserved(self.text.len());
     }
 }
@@ -60,8 +60,8 @@ impl RunLog for ReplyText {
         String::with_capacity(alloc, lines.saturating_mul(COMMON_ROOM))
     }
 
-    fn put(text: &mut String, line: &TraceLine, place: &mut ReplyPlace) -> Result<(), AllocError> {
-        put_place(text, line, place)
+    fn put(text: &mut String, line: &TraceLine, slot: &mut ReplySlot) -> Result<(), AllocError> {
+        put_slot(text, line, slot)
     }
 
     fn move_first(&mut self, text: &mut String) -> Result<(), AllocError> {

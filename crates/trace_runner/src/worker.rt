@@ -6,7 +6,7 @@ ghost use Rattle.entry_lock.specs.PassOfTable.{IsOf, view_of};
 ghost use Rattle.trace_line.specs.Lines.{is_quiet};
 ghost use Rattle.run_model.specs.Processors.{processor_after};
 ghost use Rattle.trace_reply.specs.Replies.{IsOfKind, receipts_in};
-ghost use Rattle.trace_reply.specs.Places.{reply_in};
+ghost use Rattle.trace_reply.specs.Slots.{reply_in};
 ghost use Rattle.run_model.specs.ParallelRun.{WorksLine};
 ghost use Rattle.run_model.specs.StoreContexts.{context_on};
 ghost use Rattle.run_model.specs.Quiet.{NoneQuiet};
@@ -21,7 +21,7 @@ use run_model::Surroundings;
 use std::snapshot::Snapshot;
 use std::sync::Wait;
 use trace_line::TraceLine;
-use trace_reply::ReplyPlace;
+use trace_reply::ReplySlot;
 use vcpu::Cpu;
 
 /// A processor in a section: what it keeps from line to line, what it was before the section's
@@ -50,7 +50,7 @@ fn answer<R: Wait, G: Gate>(
     line: &TraceLine,
     cpu: &mut Cpu,
     pass: Pass,
-    place: &mut ReplyPlace,
+    slot: &mut ReplySlot,
 ) -> Pass
     requires of { IsOf table.now pass }
     requires not_quiet { is_quiet line.now.act ≡ false }
@@ -59,16 +59,16 @@ fn answer<R: Wait, G: Gate>(
     ensures of { IsOf table.now result }
     ensures share { result.shares ≡ pass.shares }
     ensures made { (view_of result).actor.receipts
-        ≡ (view_of pass).actor.receipts ++ receipts_in (reply_in place.new) }
+        ≡ (view_of pass).actor.receipts ++ receipts_in (reply_in slot.new) }
     ensures line { WorksLine
         (context_on table.now.order around.now)
         (view_of pass).fronts
         cpu.old
-        (replied_line line.now (reply_in place.new))
+        (replied_line line.now (reply_in slot.new))
         (view_of result).fronts }
     ensures size { length (view_of result).fronts ≡ entry_count table.now.order }
-    ensures kind { IsOfKind line.now.act (reply_in place.new) }
-    ensures processor { cpu.new ≡ processor_after cpu.old line.now.act (reply_in place.new) }
+    ensures kind { IsOfKind line.now.act (reply_in slot.new) }
+    ensures processor { cpu.new ≡ processor_after cpu.old line.now.act (reply_in slot.new) }
     ensures seen { AllCached (IsSeenBy table.now result) cpu.new.cache }
 {
     let mut store = Stepping {
@@ -76,7 +76,7 @@ fn answer<R: Wait, G: Gate>(
         at,
         started: false,
     };
-    run_act(&mut store, cpu, around, &line.act, place);
+    run_act(&mut store, cpu, around, &line.act, slot);
     let Stepping {
         store: waiting,
         at: _,
@@ -117,7 +117,7 @@ pub fn work<R: Wait, G: Gate, L: ReplyLog>(
     let Some(mut pass) = worker.pass.take() else {
         return;
     };
-    let mut place = ReplyPlace::new();
+    let mut slot = ReplySlot::new();
     for i in 0..worker.own.len() {
         let index = worker.own[i];
         let line = &lines[index];
@@ -135,10 +135,10 @@ pub fn work<R: Wait, G: Gate, L: ReplyLog>(
             line,
             &mut worker.cpu,
             pass,
-            &mut place,
+            &mut slot,
         );
         gate.after(number, line.number);
-        worker.log.keep(line, &mut place);
+        worker.log.keep(line, &mut slot);
     }
     worker.pass = Some(pass);
 }

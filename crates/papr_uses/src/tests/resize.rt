@@ -1,5 +1,8 @@
 ghost use Rattle.std.specs.Prelude.{◌≡◌, ◌≤◌, ◌%◌, ◌^◌, IfOk};
 ghost use Rattle.partition.specs.PartitionState.{HasStates};
+ghost use Rattle.hpte_fields.specs.TableSize.{least_order};
+ghost use Rattle.trace_read.specs.Configuration.{greatest_trace_order};
+ghost use Rattle.pool_range.specs.Ranges.{greatest_pool_order};
 
 use super::entry;
 use crate::resize;
@@ -14,10 +17,10 @@ use trace_read::{Config, EntryLines, WindowLines};
 
 /// A partition with a table of the lowest order.
 fn smallest(alloc: Global, limit: u8, pool_order: u8) -> Result<Partition, AllocError>
-    requires limit_low { 18 ≤ limit }
-    requires limit_high { limit ≤ 22 }
+    requires limit_low { least_order ≤ limit }
+    requires limit_high { limit ≤ greatest_trace_order }
     requires pool_low { 19 ≤ pool_order }
-    requires pool_high { pool_order ≤ 34 }
+    requires pool_high { pool_order ≤ greatest_pool_order }
     requires pool_aligned { 0x1000000000 % 2 ^ pool_order ≡ 0 }
     ensures memory { IfOk result HasStates }
     ensures order { IfOk result (λ partition. partition.memory.table.order ≡ 18) }

@@ -1,7 +1,8 @@
 ghost use Rattle.std.specs.Prelude.{◌≡◌, ◌≤◌, ◌<◌, ◌+◌, ◌-◌, ◌^◌, false, replicate, vec_len, IfOk, IsTrue};
-ghost use Rattle.hpte_fields.specs.TableSize.{entry_count};
+ghost use Rattle.hpte_fields.specs.TableSize.{entry_count, least_order};
 ghost use Rattle.entry_model.specs.State.{empty_state};
 ghost use Rattle.entry_model.specs.Run.{state_at};
+ghost use Rattle.trace_read.specs.Configuration.{greatest_trace_order};
 
 use super::{STORAGE, empty_table};
 use crate::*;
@@ -55,8 +56,8 @@ fn blocks(rt: HostRuntime) -> Result<(), Fail> {
 
 /// The states of a new table's entries.
 fn new_states(alloc: Global, order: u8) -> Result<Vec<EntryState>, AllocError>
-    requires low { 18 ≤ order }
-    requires high { order ≤ 22 }
+    requires low { least_order ≤ order }
+    requires high { order ≤ greatest_trace_order }
     ensures empty { IfOk result
         (λ states. states.items ≡ replicate (entry_count order) (empty_state 0)) }
     ensures whole { IfOk result (λ states. vec_len states ≡ entry_count order) }
@@ -66,8 +67,8 @@ fn new_states(alloc: Global, order: u8) -> Result<Vec<EntryState>, AllocError>
 
 /// The entry of a page in a new table.
 fn entry_in_new_table(alloc: Global, order: u8) -> Result<Option<u32>, Fail>
-    requires low { 18 ≤ order }
-    requires high { order ≤ 22 }
+    requires low { least_order ≤ order }
+    requires high { order ≤ greatest_trace_order }
 {
     let page = Page::new(false, 1, 12, 5).ok_or("no page")?;
     let states = new_states(alloc, order)?;

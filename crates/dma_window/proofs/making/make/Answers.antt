@@ -1,13 +1,7 @@
-use Rattle.std.proofs.Common.{ℕ, ◌-◌, ◌^◌, ◌<◌, ◌≤◌, subst, arith}
-use Rattle.std.proofs.Math.Pow.{pow_mono}
-use Rattle.hpte_fields.specs.TableSize.{entry_count, least_order}
+use Rattle.std.proofs.Common.{◌-◌, ◌<◌, subst}
+use Rattle.hpte_fields.specs.TableSize.{entry_count}
 use Rattle.dma_window.proofs.making.make.Goals as goal
-
--- The least table has 2 ^ 14 entries.
-in_least : (entry order : ℕ) → entry < 2 ^ 14 → least_order ≤ order → entry < entry_count order
-in_least entry order small low =
-    let least : 2 ^ 14 ≤ 2 ^ (order - 4) = pow_mono {i = 14} {j = order - 4} (omega arith) in
-    omega arith
+use Rattle.dma_window.proofs.TcePlanCalls.{in_least}
 
 pub apply-made-requires-clause-in_table : goal.apply-made-requires-clause-in_table
 apply-made-requires-clause-in_table g c =

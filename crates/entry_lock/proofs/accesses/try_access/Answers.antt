@@ -5,8 +5,8 @@ use Rattle.entry_lock.specs.Layout.{word_of}
 use Rattle.entry_lock.proofs.CallStepFacts.{if_err, busy_second}
 use Rattle.entry_lock.proofs.accesses.try_access.Goals as goal
 
-pub returns-then-known-clause-busy : goal.returns-then-known-clause-busy
-returns-then-known-clause-busy c =
+pub returns-then-outcome-clause-busy : goal.returns-then-outcome-clause-busy
+returns-then-outcome-clause-busy c =
     let d = c.in_ok-looked.looked in
     let same = c.load_words-doing.ensures.doing in
     let k = c.raise_bits.ensures in
@@ -17,8 +17,8 @@ returns-then-known-clause-busy c =
     c.requires.op c.in_ok-looked.ensures.ok.low (inr refl) (two.0 ∙ ap word_of same.noted, two.1)
     c.look_first.ensures.steps c.load_words-doing.ensures.steps k.steps) k.two_words
 
-pub returns-else-known-clause-busy : goal.returns-else-known-clause-busy
-returns-else-known-clause-busy c =
+pub returns-else-outcome-clause-busy : goal.returns-else-outcome-clause-busy
+returns-else-outcome-clause-busy c =
     let d = c.in_ok-looked.looked in
     let same = c.load_words-doing.ensures.doing in
     let begun = c.in_ok-looked.ensures.ok.begun_at in

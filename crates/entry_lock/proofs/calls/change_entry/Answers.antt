@@ -10,10 +10,11 @@ use Rattle.lock_core.specs.declared.step.Step.TheVariants.{Shut, Settle}
 use Rattle.lock_core.specs.Words.{receipt}
 use Rattle.lock_core.specs.Steps.{with_noted}
 use Rattle.entry_lock.specs.StepViews.{view_with_step, view_in_phase, view_with_receipt}
-use Rattle.entry_lock.proofs.CallStepFacts.{found_valid, found_changes, after_is, changed_stored, changed_bare}
+use Rattle.entry_lock.proofs.CallStepFacts.{found_valid, found_changes, changed_stored, changed_bare}
 use Rattle.entry_lock.proofs.ViewChanges.{receipt_by}
 use Rattle.entry_lock.proofs.calls.change_entry.Goals as goal
 use Rattle.entry_lock.proofs.calls.change_entry.Goals.{then-after, else-after}
+use Rattle.lock_core.proofs.Steps.{receipt_after}
 
 pub returns-clause-receipt : goal.returns-clause-receipt
 returns-clause-receipt c =
@@ -57,7 +58,7 @@ returns-clause-made c =
     (view_with_receipt (view_with_step c.if-after.seat.me.0 Settle)) made in
     let valid : (after_of r).valid ≡ c.after.inside.valid = ap (λ (z : Receipt). (after_of z).valid)
     c.outcome_by-receipt.ensures.receipt ∙ ap (λ (s : State). s.valid)
-    (after_is last ∙ sym c.outcome_by-receipt.ensures.after ∙ sym c.after.view_is) in
+    (receipt_after last ∙ sym c.outcome_by-receipt.ensures.after ∙ sym c.after.view_is) in
     elim c.if-after.branch [
       | then-after w ↦ changed_stored v c.shut-found.new.seat.me.0 w.store_data.new.seat.me.0
           c.if-after.seat.me.0 c.settle.new.seat.me.0 last r shut w.store_data.ensures.told

@@ -1,8 +1,7 @@
 use Rattle.std.proofs.Common.{refl, ap, ◌∙◌}
-use Rattle.std.proofs.lemmas.Bool.{and_parts}
+use Rattle.std.proofs.lemmas.Bool.{and_parts, not-true}
 use Rattle.lock_core.specs.declared.control.Control.{Control}
 use Rattle.lock_core.specs.Steps.{with_noted}
-use Rattle.lock_core.proofs.Noted.{not_is}
 use Rattle.entry_lock.proofs.CallStepFacts.{found_valid, found_leaves}
 use Rattle.entry_lock.proofs.ViewChanges.{receipt_by}
 use Rattle.entry_lock.proofs.calls.release_unchanged.Goals as goal
@@ -27,4 +26,4 @@ returns-clause-leaves c =
     found_leaves c.args.doing.now c.control_of.result c.requires.op
     (ap (λ (k : Control). k.valid) means ∙ t.2) (ap (λ (k : Control). k.stamp) means ∙ t.3)
     c.outcome_by.result.receipt c.outcome_by.ensures.receipt
-    (not_is _ (and_parts _ _ c.requires.may).1)
+    (not-true _ (and_parts _ _ c.requires.may).1)

@@ -10,13 +10,13 @@ use Rattle.entry_lock.proofs.line_accesses.decide.Goals as goal
 
 pub returns-then-found-word_from-clause-receipt : goal.returns-then-found-word_from-clause-receipt
 returns-then-found-word_from-clause-receipt c = let l = c.requires.looked in
-    receipt_by c.args.doing.now _ _ c.args.told.receipt c.requires.told
+    receipt_by c.args.doing.now _ _ c.args.outcome.receipt c.requires.outcome
     (ap (λ (d : Doing). d.entry) l.begun_at) (ap (λ (d : Doing). d.op) l.begun_at)
 
 pub returns-then-found-word_from-clause-current : goal.returns-then-found-word_from-clause-current
 returns-then-found-word_from-clause-current c = let l = c.requires.looked in
-    current_receipt c.args.known.now c.args.op c.args.doing.now c.args.told.receipt l.begun_at
-    l.valid l.stamp l.clear c.requires.told
+    current_receipt c.args.known.now c.args.op c.args.doing.now c.args.outcome.receipt l.begun_at
+    l.valid l.stamp l.clear c.requires.outcome
 
 pub returns-then-is_still-clause-receipt : goal.returns-then-is_still-clause-receipt
 returns-then-is_still-clause-receipt c = let l = c.requires.looked in
@@ -34,4 +34,4 @@ returns-then-is_still-clause-current c = let l = c.requires.looked in
 
 pub returns-then-found-word_from-clause-leaves : goal.returns-then-found-word_from-clause-leaves
 returns-then-found-word_from-clause-leaves c =
-    ap leaves_state c.requires.told ∙ leaves_if c.args.doing.now c.requires.may
+    ap leaves_state c.requires.outcome ∙ leaves_if c.args.doing.now c.requires.may

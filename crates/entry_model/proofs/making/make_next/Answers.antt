@@ -1,4 +1,4 @@
-use Rattle.std.proofs.Common.{◌≡◌, ◌<◌, ◌≤◌, length, false, true, List, [], ◌∷◌, arith, ap, sym, ◌∙◌, append-nil}
+use Rattle.std.proofs.Common.{◌≡◌, ◌<◌, false, true, [], ◌∷◌, arith, ap, sym, ◌∙◌, append-nil}
 use Rattle.hpte_fields.specs.TableSize.{entry_count}
 use Rattle.entry_model.specs.declared.receipt.Receipt.{Receipt}
 use Rattle.entry_model.specs.Receipt.{IsNormal}

@@ -1,4 +1,4 @@
-use Rattle.std.proofs.Common.{◌≡◌, ◌≤◌, length, [], arith, ap, sym, ◌∙◌, append-nil}
+use Rattle.std.proofs.Common.{◌≤◌, length, [], arith, ap, sym, ◌∙◌, append-nil}
 use Rattle.entry_model.specs.Trial.{ending_of}
 use Rattle.entry_model.proofs.BegunLaws.{at_end, begun_whole, begun_on}
 use Rattle.entry_model.proofs.making.make_trial.Goals as goal

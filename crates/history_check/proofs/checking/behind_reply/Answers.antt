@@ -29,11 +29,11 @@ if_none text told other None e h = λ rest same. h rest (rw e same)
 pub returns-clause-some : goal.returns-clause-some
 returns-clause-some c =
     let told = c.as_bytes.ensures.value ∙ c.in_ok-put_reply.ensures.text ∙ ap
-    (λ z. z ++ reply_text c.args.line.now c.args.reply.now) c.new-told.ensures.bytes in
+    (λ z. z ++ reply_text c.args.line.now c.args.reply.now) c.new-own.ensures.bytes in
     if_some _ _ _ _ told (strip_prefix_is Decides-eqb _ _ _ c.strip_prefix.ensures.cases)
 
 pub returns-clause-none : goal.returns-clause-none
 returns-clause-none c =
     let told = c.as_bytes.ensures.value ∙ c.in_ok-put_reply.ensures.text ∙ ap
-    (λ z. z ++ reply_text c.args.line.now c.args.reply.now) c.new-told.ensures.bytes in
+    (λ z. z ++ reply_text c.args.line.now c.args.reply.now) c.new-own.ensures.bytes in
     if_none _ _ _ _ told (strip_prefix_is Decides-eqb _ _ _ c.strip_prefix.ensures.cases)

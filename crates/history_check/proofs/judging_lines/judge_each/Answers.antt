@@ -1,16 +1,12 @@
 use Rattle.std.proofs.Common.{◌≡◌, ◌<◌, ◌∙◌, List, [], ◌∷◌, false, ap, sym, refl, subst, length, get_or, ◌+◌, arith}
 use Rattle.std.proofs.lemmas.Grind.{common_steps}
 use Rattle.trace_line.specs.declared.line.TraceLine.{TraceLine}
-use Rattle.trace_line.specs.declared.act.Act.TheVariants as acts
-use Rattle.trace_line.specs.Lines.{is_quiet}
+use Rattle.trace_line.specs.Lines.{is_quiet, past_lines}
 use Rattle.entry_model.specs.State.{State}
 use Rattle.history_check.specs.FrontKeeping.{fronts_of}
 use Rattle.history_check.proofs.SectionSteps.{all_left}
 use Rattle.history_check.proofs.SectionLoop.{Left, line_at, text_first, text_on, step_left, none_left, few_left, end_left, over_left}
 use Rattle.history_check.proofs.judging_lines.judge_each.Goals as goal
-
-no_line : TraceLine
-no_line = record { number = 0; cpu = 0; act = acts.Call 0 [] false }
 
 pub loop-i-init : goal.loop-i-init
 loop-i-init c = record {
@@ -30,42 +26,40 @@ judge_next-requires-clause-plain c =
     c.loop-i-test.true c.requires.plain
 
 pub judge_next-requires-clause-cpu : goal.judge_next-requires-clause-cpu
-unfolding no_line
 judge_next-requires-clause-cpu c =
-    subst (λ n. (get_or c.args.lines.now c.loop-i.i no_line).cpu < n)
+    subst (λ n. (get_or c.args.lines.now c.loop-i.i past_lines).cpu < n)
     (sym c.loop-i.invariant.processors)
     (line_at (λ (l : TraceLine). l.cpu < length c.args.processors.now.items) c.args.lines.now
-    c.loop-i.i no_line c.loop-i-test.true c.requires.cpus)
+    c.loop-i.i past_lines c.loop-i-test.true c.requires.cpus)
 
 pub returns-then-count-states-clause-told : goal.returns-then-count-states-clause-told
-unfolding no_line
 returns-then-count-states-clause-told c =
     few_left _ _ _ _ _ _ _ _ _ _ _ _ _ c.loop-i.invariant.left
-    (get_or c.args.lines.now c.loop-i.i no_line) no_line (get_or c.args.counts.now c.loop-i.i 0)
+    (get_or c.args.lines.now c.loop-i.i past_lines) past_lines
+    (get_or c.args.counts.now c.loop-i.i 0)
     c.loop-i.processors.items (omega arith) (omega arith) refl refl c.if-count-states.true
 
 pub returns-in_default-clause-told : goal.returns-in_default-clause-told
-unfolding no_line
 returns-in_default-clause-told c =
     let none = rw c.in_default.is at c.in_ok-told.ensures.told in
     none_left _ _ _ _ _ _ _ _ _ _ _ _ _ c.loop-i.invariant.left
-    (get_or c.args.lines.now c.loop-i.i no_line) no_line (get_or c.args.counts.now c.loop-i.i 0)
+    (get_or c.args.lines.now c.loop-i.i past_lines) past_lines
+    (get_or c.args.counts.now c.loop-i.i 0)
     c.split_at.result.0.now c.judge_next.new.processors.items c.judge_next.new.processors.items
     (fronts_of c.judge_next.new.fronts.items c.args.opening.now) (omega arith) (omega arith)
     refl refl c.split_at.ensures.front none
 
 pub loop-i-preserved : goal.loop-i-preserved
-unfolding no_line
 loop-i-preserved c =
-    let l = get_or c.args.lines.now c.loop-i.i no_line in
+    let l = get_or c.args.lines.now c.loop-i.i past_lines in
     let cpu : l.cpu < length c.loop-i.processors.items = subst (λ n. l.cpu < n)
     (sym c.loop-i.invariant.processors)
     (line_at (λ (l : TraceLine). l.cpu < length c.args.processors.now.items) c.args.lines.now
-    c.loop-i.i no_line c.loop-i-test.true c.requires.cpus) in
+    c.loop-i.i past_lines c.loop-i-test.true c.requires.cpus) in
     let plain : is_quiet l.act ≡ false = line_at (λ (l : TraceLine). is_quiet l.act ≡ false)
-    c.args.lines.now c.loop-i.i no_line c.loop-i-test.true c.requires.plain in
+    c.args.lines.now c.loop-i.i past_lines c.loop-i-test.true c.requires.plain in
     let told = rw c.in-Some.is at c.in_ok-told.ensures.told in
-    let left = step_left _ _ _ _ _ _ _ _ _ _ _ _ _ c.loop-i.invariant.left l no_line
+    let left = step_left _ _ _ _ _ _ _ _ _ _ _ _ _ c.loop-i.invariant.left l past_lines
     (get_or c.args.counts.now c.loop-i.i 0) c.in-Some.bytes c.split_at.result.0.now
     c.split_at.result.1.now c.judge_next.new.processors.items
     (fronts_of c.judge_next.new.fronts.items c.args.opening.now) (omega arith) (omega arith)

@@ -1,6 +1,6 @@
 use Rattle.std.proofs.Common.{◌≡◌, ◌<◌, ◌++◌, List, length, get_or, Contains, sym, ap, ◌∙◌, subst, string_bytes}
 use Rattle.trace_line.specs.declared.line.TraceLine.{TraceLine}
-use Rattle.trace_reply.specs.Places.{reply_in}
+use Rattle.trace_reply.specs.Slots.{reply_in}
 use Rattle.lpar_set.specs.declared.turn.Turn.{Turn}
 use Rattle.lpar_set.specs.SetTrace.{line_of}
 use Rattle.lpar_set.specs.SetRun.{SetState, member_at, set_line, replies_from}
@@ -45,14 +45,14 @@ loop-turn-preserved c =
     let here = subst (λ (ts : List Turn). Contains ts t) c.turns-turns.ensures
     (turn_here turns i (record { partition = 0; line = 0 }) c.loop-turn-test.true) in
     let may = may_run s w i t c.keeps_limits.ensures c.loop-turn.invariant.ready here in
-    let r = reply_in c.line.new.place in
+    let r = reply_in c.line.new.slot in
     let moved : in_set r c.line.new.self ≡ set_line w t.partition (line_of s t) =
     c.in_ok-line.ensures.reply
     ∙ ap (λ (l : TraceLine). set_line w t.partition l) c.line_of-line.ensures in
     let put :
-    string_bytes c.put_numbered_place.new.out
+    string_bytes c.put_numbered_slot.new.out
     ≡ string_bytes c.loop-turn.out ++ turn_text s t r =
-    c.in_ok-put_numbered_place.ensures
+    c.in_ok-put_numbered_slot.ensures
     ∙
     (λ j.
     string_bytes c.loop-turn.out
@@ -60,7 +60,7 @@ loop-turn-preserved c =
     record {
       told =
           run_text_goes_on s w c.line.new.self turns i (record { partition = 0; line = 0 }) r
-          (string_bytes c.loop-turn.out) (string_bytes c.put_numbered_place.new.out) _
+          (string_bytes c.loop-turn.out) (string_bytes c.put_numbered_slot.new.out) _
           c.loop-turn-test.true moved put c.loop-turn.invariant.told;
       ready = turn_ready s w c.line.new.self i t r may c.loop-turn.invariant.ready moved;
     }

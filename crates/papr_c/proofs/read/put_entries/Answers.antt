@@ -16,7 +16,7 @@ loop-i-preserved c =
     (c.state.ensures ∙ ap (λ (e : Entry). e.state) c.index-entries-first.is) in
     c.put_word-in-loop-i.ensures
     ∙ ap (λ z. set z (2 * c.loop-i.i + 1) c.words-dword0.result.1) c.put_word.ensures
-    ∙ put_more (states_of c.args.entries.now) c.args.first c.loop-i.i c.args.places.now
-    c.loop-i.places
+    ∙ put_more (states_of c.args.entries.now) c.args.first c.loop-i.i c.args.slots.now
+    c.loop-i.slots
     c.words-dword0.result.0 c.words-dword0.result.1 (c.words-dword0.ensures ∙ ap words_of read)
     c.loop-i.invariant

@@ -1,5 +1,5 @@
 use Rattle.std.proofs.Common.{◌≡◌, ◌-◌, take, drop}
-use Rattle.c_layout.specs.Places.{placed}
+use Rattle.c_layout.specs.Slots.{placed}
 use Rattle.papr_c.proofs.removals.put_rest.Given as goal
 
 abbrev pub invariant-loop-i : goal.invariant-loop-i

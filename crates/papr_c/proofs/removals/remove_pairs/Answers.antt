@@ -10,9 +10,10 @@ use Rattle.c_layout.specs.Stale.{is_stale}
 use Rattle.c_layout.proofs.Marks.{passed_none, passed_both, passed_marked}
 use Rattle.papr_c.specs.Calls.{memory}
 use Rattle.papr_c.proofs.SoFar.{put_next}
-use Rattle.papr_c.proofs.Removing.{starts, put_more, run_one, removes_more, removal_ends, long-more, length-more, stale_more, asked_inside}
+use Rattle.papr_c.proofs.Removing.{starts, put_more, run_one, removes_more, removal_ends, stale_more, asked_inside}
 use Rattle.papr_c.proofs.removals.remove_pairs.Goals as goal
 use Rattle.papr_c.proofs.removals.remove_pairs.Goals.{then-stale, else-stale}
+use Rattle.std.proofs.lemmas.List.{length_push}
 
 pub loop-i-init : goal.loop-i-init
 loop-i-init c = record {
@@ -64,7 +65,7 @@ returns-in-Refused-clause-told c =
     let m = memory (states_of c.args.entries.now) c.args.words.now c.args.receipts.now in
     let answer = response ill_formed (get_or c.args.pairs.now (2 * i) 0) in
     removal_ends _ (h_bulk_remove_plan c.args.order c.args.pairs.now) m Parameter c.args.pairs.now
-    (told ++ answer ∷ []) rs (2 * i + 1) i c.loop-i.stale c.put_word.new.places
+    (told ++ answer ∷ []) rs (2 * i + 1) i c.loop-i.stale c.put_word.new.slots
     c.ended-in-Refused.new.words c.ended-in-Refused.result c.loop-i.receipts
     (states_of c.loop-i.entries)
     c.requires.table
@@ -76,7 +77,7 @@ returns-in-Refused-clause-told c =
     (c.put_word.ensures
     ∙ ap (set c.loop-i.words (2 * i)) c.ill_formed.ensures
     ∙ put_more c.args.words.now c.loop-i.words told (2 * i) answer h.in_words h.long)
-    (omega (arith, long-more told answer, h.long))
+    (omega (arith, length_push told answer, h.long))
     c.ended-in-Refused.ensures.words
     h.put
     h.tried
@@ -116,7 +117,7 @@ returns-then-eq-clause-told c =
     [ then-stale w ↦ search rules | else-stale w ↦ search rules ] in
     removal_ends _ (h_bulk_remove_plan c.args.order c.args.pairs.now) m Hardware c.args.pairs.now
     (told ++ answer ∷ []) (rs ++ r ∷ []) (2 * i + 1) (i + 1) c.if-stale.stale
-    c.put_word-in-Remove.new.places c.ended-then-eq.new.words c.ended-then-eq.result
+    c.put_word-in-Remove.new.slots c.ended-then-eq.new.words c.ended-then-eq.result
     c.make-receipt.new.receipts (states_of c.make-receipt.new.entries)
     c.requires.table
     (omega arith)
@@ -129,11 +130,11 @@ returns-then-eq-clause-told c =
     (c.put_word-in-Remove.ensures
     ∙ ap (set c.loop-i.words (2 * i)) said
     ∙ put_more c.args.words.now c.loop-i.words told (2 * i) answer h.in_words h.long)
-    (omega (arith, long-more told answer, h.long))
+    (omega (arith, length_push told answer, h.long))
     c.ended-then-eq.ensures.words
     (c.make-receipt.ensures.receipts
     ∙ put_next c.args.receipts.now c.loop-i.receipts i rs r h.put h.tried)
-    (omega (arith, length-more rs r, h.tried))
+    (omega (arith, length_push rs r, h.tried))
     (stale ∙ ap (λ b. b || is_stale r.answer) h.told_stale ∙ stale_more rs r)
     c.ended-then-eq.ensures.reply
 
@@ -168,8 +169,8 @@ loop-i-preserved c =
           rw stale
               (removes_more c.args.order i c.args.pairs.now (states_of c.args.entries.now)
               (states_of c.loop-i.entries) (states_of c.make-receipt.new.entries)
-              c.args.words.now c.loop-i.words c.put_word-in-Remove.new.places
-              c.put_word-in-Remove-2.new.places c.args.receipts.now c.loop-i.receipts
+              c.args.words.now c.loop-i.words c.put_word-in-Remove.new.slots
+              c.put_word-in-Remove-2.new.slots c.args.receipts.now c.loop-i.receipts
               c.make-receipt.new.receipts c.loop-i.stale told rs c.in-Remove.entry
               c.in-Remove.test r answer word (omega arith) (omega (arith, c.loop-i-test.true))
               c.in-Remove.ensures c.make-receipt.ensures.receipt inside goes

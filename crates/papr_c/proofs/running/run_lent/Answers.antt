@@ -4,7 +4,7 @@ use Rattle.papr_c.proofs.running.run_lent.Goals as goal
 
 pub returns-in-Code-clause-told : goal.returns-in-Code-clause-told
 returns-in-Code-clause-told c =
-    rw (c.told.ensures, c.in-Code.is) (coded _ _ _ c.requires.table)
+    rw (c.answered.ensures, c.in-Code.is) (coded _ _ _ c.requires.table)
 
 pub returns-in-Code-clause-marks : goal.returns-in-Code-clause-marks
 returns-in-Code-clause-marks c = marked_none c.args.entries.now

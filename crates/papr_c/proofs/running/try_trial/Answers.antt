@@ -13,7 +13,7 @@ use Rattle.call_plan.specs.Enter.{told_by_ending}
 use Rattle.call_plan.proofs.Search.{told_is}
 use Rattle.call_plan.specs.Plans.{goes_of, told_of, most_of, plan_of_trial, IsToldOf}
 use Rattle.call_plan.proofs.TrialCalls.{trial_in}
-use Rattle.c_layout.specs.Places.{placed, shown_receipt}
+use Rattle.c_layout.specs.Slots.{placed, shown_receipt}
 use Rattle.c_layout.specs.Stale.{is_stale, any_stale}
 use Rattle.papr_c.specs.Tried.{words_of_entries}
 use Rattle.c_layout.proofs.Filling.{placed_filled}
@@ -121,12 +121,12 @@ returns-in-Contents-clause-told c =
     let many = rw c.try_lent-tried-in-Contents.ensures.count at c.filled_count.ensures in
     let filled : c.filled_count.result ≡ min (length c.args.receipts.now) (length x.0) = many ∙ ap
     (λ z. min (length c.args.receipts.now) (length z.0)) same in
-    call_tried _ (plan_of_trial t) _ x Success ws c.told.result c.put_entries-shown.new.places
+    call_tried _ (plan_of_trial t) _ x Success ws c.answered.result c.put_entries-shown.new.slots
     c.try_lent-tried-in-Contents.new.receipts (states_of c.try_lent-tried-in-Contents.new.entries)
     c.requires.table
     (sym same)
     (ap (λ z. (Success, z)) (sym read.words) ∙ ap (λ d. told_of d x.0) (sym c.in-Contents.is))
-    (c.told.ensures
+    (c.answered.ensures
     ∙ λ k. record {
       rc = rc_code Success;
       words = shown k;

@@ -12,12 +12,12 @@ loop-index-init c = (
       c.args.indexes.now c.requires.inside,
 )
 
-pub told-requires-clause-few : goal.told-requires-clause-few
-told-requires-clause-few c =
+pub ended_at-requires-clause-few : goal.ended_at-requires-clause-few
+ended_at-requires-clause-few c =
     let h = c.loop-index.invariant.1 in omega (arith, h.less, h.high, c.requires.few)
 
-pub told-requires-2-clause-few : goal.told-requires-2-clause-few
-told-requires-2-clause-few c =
+pub ended_at-requires-2-clause-few : goal.ended_at-requires-2-clause-few
+ended_at-requires-2-clause-few c =
     let h = c.loop-index.invariant.1 in omega (arith, h.less, h.high, c.requires.few)
 
 pub loop-index-preserved : goal.loop-index-preserved
@@ -67,7 +67,7 @@ loop-index-preserved c =
     ]
 
 -- Where no place is left.
-full_found : (c : goal.After-told)
+full_found : (c : goal.After-ended_at)
     → found c.args.entries.now c.args.first (length c.args.indexes.now)
     ≡ record { indexes = c.loop-index.invariant.0; next = c.loop-index.index }
 full_found c =
@@ -90,7 +90,7 @@ returns-then-count-indexes-clause-entries c =
     ∙ ap (λ (f : Found). entries_without c.args.first f c.args.entries.now) (sym (full_found c))
 
 -- Where the table ended.
-end_found : (c : goal.After-told-2)
+end_found : (c : goal.After-ended_at-2)
     → found c.args.entries.now c.args.first (length c.args.indexes.now)
     ≡ record { indexes = c.loop-index.invariant.0; next = c.loop-index.index }
 end_found c =

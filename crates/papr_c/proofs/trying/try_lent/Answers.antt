@@ -26,8 +26,8 @@ returns-in-Some-clause-entries g c =
     let m : LentPair = record {
       before = (states_of c.loop-made.entries);
       after = (states_of c.try_next.new.entries);
-      places_before = c.loop-made.receipts;
-      places_after = c.try_next.new.receipts;
+      slots_before = c.loop-made.receipts;
+      slots_after = c.try_next.new.receipts;
     } in
     (told_last _ (g.C.CallList.calls c.args.calls.now) c.loop-made.made
     (states_of c.args.entries.now)
@@ -38,8 +38,8 @@ returns-in-Some-clause-receipts g c =
     let m : LentPair = record {
       before = (states_of c.loop-made.entries);
       after = (states_of c.try_next.new.entries);
-      places_before = c.loop-made.receipts;
-      places_after = c.try_next.new.receipts;
+      slots_before = c.loop-made.receipts;
+      slots_after = c.try_next.new.receipts;
     } in
     (told_last _ (g.C.CallList.calls c.args.calls.now) c.loop-made.made
     (states_of c.args.entries.now)
@@ -50,8 +50,8 @@ returns-in-Some-clause-count g c =
     let m : LentPair = record {
       before = (states_of c.loop-made.entries);
       after = (states_of c.try_next.new.entries);
-      places_before = c.loop-made.receipts;
-      places_after = c.try_next.new.receipts;
+      slots_before = c.loop-made.receipts;
+      slots_after = c.try_next.new.receipts;
     } in
     (told_last _ (g.C.CallList.calls c.args.calls.now) c.loop-made.made
     (states_of c.args.entries.now)
@@ -62,8 +62,8 @@ returns-in-Some-clause-ending g c =
     let m : LentPair = record {
       before = (states_of c.loop-made.entries);
       after = (states_of c.try_next.new.entries);
-      places_before = c.loop-made.receipts;
-      places_after = c.try_next.new.receipts;
+      slots_before = c.loop-made.receipts;
+      slots_after = c.try_next.new.receipts;
     } in
     (told_last _ (g.C.CallList.calls c.args.calls.now) c.loop-made.made
     (states_of c.args.entries.now)
@@ -74,8 +74,8 @@ loop-made-preserved g c =
     let m : LentPair = record {
       before = (states_of c.loop-made.entries);
       after = (states_of c.try_next.new.entries);
-      places_before = c.loop-made.receipts;
-      places_after = c.try_next.new.receipts;
+      slots_before = c.loop-made.receipts;
+      slots_after = c.try_next.new.receipts;
     } in
     let next : IsTriedNext (g.C.CallList.goes_on c.args.calls.now)
     (g.C.CallList.calls c.args.calls.now) c.loop-made.made m None = subst

@@ -32,11 +32,12 @@ returns-clause-told c =
     let fresh : false ≡ any_stale (r ∷ []) = ap (λ (q : Receipt). is_stale q.answer)
     (sym c.make-read.ensures.receipt) ∙ stale_alone r in
     call_tried true (get_plan_at c.in-Some.entry) m (r ∷ [], states_after entries r) Success ws
-    c.told.result c.put_word.new.places c.make-read.new.receipts (states_of c.make-read.new.entries)
+    c.answered.result c.put_word.new.slots c.make-read.new.receipts
+    (states_of c.make-read.new.entries)
     refl
     (one_call (λ answer. true) Read c.in-Some.entry entries r c.make-read.ensures.receipt)
     (ap (λ w. (Success, w ∷ [])) c.tce_of.ensures)
-    (c.told.ensures
+    (c.answered.ensures
     ∙ λ k. record {
       rc = rc_code Success;
       words = c.filled_count-shown.ensures k;

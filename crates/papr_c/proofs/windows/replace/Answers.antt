@@ -9,9 +9,8 @@ use Rattle.entry_model.specs.declared.operation.Answer.{Answer}
 use Rattle.entry_model.specs.declared.operation.Answer.TheVariants.{Worn}
 use Rattle.entry_model.specs.declared.operation.Op.TheVariants.{Remove}
 use Rattle.dma_window.specs.Calls.{replace_plan, code_of}
-use Rattle.dma_window.specs.Entries.{no_test}
 use Rattle.papr_c.specs.Calls.{memory}
-use Rattle.c_layout.specs.Places.{shown_receipt}
+use Rattle.c_layout.specs.Slots.{shown_receipt}
 use Rattle.c_layout.specs.Stale.{any_stale}
 use Rattle.papr_c.proofs.Outcomes.{call_tried}
 use Rattle.papr_c.proofs.StaleTrials.{stale_alone, stale_pair}
@@ -19,6 +18,8 @@ use Rattle.papr_c.proofs.Tces.{first_ends, two_calls}
 use Rattle.c_layout.proofs.Marks.{passed_marked, passed_both}
 use Rattle.c_layout.specs.Entries.{states_of}
 use Rattle.papr_c.proofs.windows.replace.Goals as goal
+use Rattle.entry_model.specs.Reply.{no_test}
+use Rattle.entry_model.proofs.Trials.{not_worn}
 
 -- The code after a worn entry.
 worn_code : (answer : Answer) → is_worn answer ≡ true → Hardware ≡ code_of answer
@@ -32,12 +33,12 @@ returns-then-is_worn-clause-told c =
     let worn : is_worn r.answer ≡ true = sym c.is_worn.ensures ∙ c.if-is_worn.true in
     call_tried true (replace_plan c.args.entry c.args.op.now)
     (memory entries [] c.args.receipts.now) (r ∷ [], states_after entries r) Hardware []
-    c.told.result [] c.make-removed.new.receipts (states_of c.make-removed.new.entries)
+    c.answered.result [] c.make-removed.new.receipts (states_of c.make-removed.new.entries)
     refl
-    (first_ends (λ answer. not (is_worn answer)) (Remove no_test) c.args.op.now c.args.entry entries
+    (first_ends not_worn (Remove no_test) c.args.op.now c.args.entry entries
     r c.make-removed.ensures.receipt (ap not worn))
     (ap (λ rc. (rc, [])) (worn_code r.answer worn))
-    (c.told.ensures
+    (c.answered.ensures
     ∙ λ k. record {
       rc = rc_code Hardware;
       words = 0;
@@ -62,13 +63,13 @@ returns-clause-told c =
     c.make-removed.ensures.entries in
     call_tried true (replace_plan c.args.entry c.args.op.now)
     (memory entries [] c.args.receipts.now)
-    (r ∷ s ∷ [], states_after (states_after entries r) s) c.code_of.result [] c.told-2.result []
+    (r ∷ s ∷ [], states_after (states_after entries r) s) c.code_of.result [] c.answered-2.result []
     c.make-entered.new.receipts (states_of c.make-entered.new.entries)
     refl
-    (two_calls (λ answer. not (is_worn answer)) (Remove no_test) c.args.op.now c.args.entry entries
+    (two_calls not_worn (Remove no_test) c.args.op.now c.args.entry entries
     r s c.make-removed.ensures.receipt (ap not goes) next)
     (ap (λ rc. (rc, [])) c.code_of.ensures)
-    (c.told-2.ensures
+    (c.answered-2.ensures
     ∙ λ k. record {
       rc = rc_code c.code_of.result;
       words = 0;

@@ -14,9 +14,9 @@ returns c =
     [ then-is_free w ↦ search rules | else-is_free w ↦ search rules ] in
     let other_free : is_free y ≡ true = elim c.if-is_free.branch
     [ then-is_free w ↦ search rules | else-is_free w ↦ search rules ] in
-    let after : c.put-2.new.self.place.held ≡ Some c.join.new.self = search rules in
+    let after : c.put-2.new.self.pointer.held ≡ Some c.join.new.self = search rules in
     let told : to_z w64 (of_z w64 c.code-2.result) ≡ rc_code Success = search rules in
     let taken : IsTakenIn x y c.join.new.self = search rules in
-    joined_in x y c.join.new.self c.args.pass.now.place.held c.args.other.now.place.held
-    c.put-2.new.self.place.held c.take-2.new.self.place.held _ c.in-Some.ensures.some
+    joined_in x y c.join.new.self c.args.pass.now.pointer.held c.args.other.now.pointer.held
+    c.put-2.new.self.pointer.held c.take-2.new.self.pointer.held _ c.in-Some.ensures.some
     c.in-Some-take.ensures.some free other_free after c.in-Some-take.ensures.closed told taken

@@ -1,10 +1,11 @@
 use Rattle.std.proofs.Common.{ap}
 use Rattle.entry_model.specs.declared.access_reply.AccessReply.{AccessReply}
-use Rattle.papr_uses.proofs.NoSegment.{all_cached, nothing_made, replied}
+use Rattle.papr_uses.proofs.NoSegment.{nothing_made, replied}
 use Rattle.papr_uses.proofs.accesses.first_access.Goals as goal
+use Rattle.tlb_model.proofs.CachedPages.{all_empty}
 
 pub access-requires : goal.access-requires
-access-requires c = record { seen = rw c.new.ensures.cache (all_cached _) }
+access-requires c = record { seen = rw c.new.ensures.cache (all_empty _) }
 
 pub returns-clause-outcome : goal.returns-clause-outcome
 returns-clause-outcome c =

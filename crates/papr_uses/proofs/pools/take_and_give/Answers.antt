@@ -1,13 +1,14 @@
 use Rattle.std.proofs.Common.{◌∙◌, Contains, ap, subst, sym}
 use Rattle.hpt_pool.specs.Pool.{PoolState, block_at, without_block}
-use Rattle.papr_uses.proofs.Taken.{same_again, taken_has}
+use Rattle.papr_uses.proofs.Taken.{same_again}
 use Rattle.papr_uses.proofs.pools.take_and_give.Goals as goal
+use Rattle.hpt_pool.proofs.Kept.{with_contains}
 
 pub give-requires : goal.give-requires
 give-requires c =
     let b = block_at c.in_ok-place.place c.args.order in
     subst (λ (p : PoolState). Contains p.taken b) (sym c.in_ok-place.ensures.taken)
-    (taken_has c.args.pool.now.taken b)
+    (with_contains c.args.pool.now.taken b)
 
 pub returns-clause-same : goal.returns-clause-same
 returns-clause-same c =

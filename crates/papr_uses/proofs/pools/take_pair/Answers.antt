@@ -1,12 +1,13 @@
 use Rattle.std.proofs.Common.{◌≡◌, ◌∙◌, Contains, ap, subst, sym}
 use Rattle.hpt_pool.specs.Pool.{Block, PoolState, block_at, with_block, without_block}
-use Rattle.papr_uses.proofs.Taken.{same_again, taken_apart, taken_has, taken_keeps}
+use Rattle.papr_uses.proofs.Taken.{same_again, taken_apart}
 use Rattle.papr_uses.proofs.pools.take_pair.Goals as goal
+use Rattle.hpt_pool.proofs.Kept.{with_contains, with_keeps}
 
 -- A block that was taken is there.
 held : (old new : PoolState) (b : Block) → new ≡ with_block old b → Contains new.taken b
 held old new b taken =
-    subst (λ (p : PoolState). Contains p.taken b) (sym taken) (taken_has old.taken b)
+    subst (λ (p : PoolState). Contains p.taken b) (sym taken) (with_contains old.taken b)
 
 -- And stays when another one is taken.
 stays :
@@ -15,7 +16,7 @@ stays :
     → Contains old.taken kept
     → Contains new.taken kept
 stays old new b kept taken here =
-    subst (λ (p : PoolState). Contains p.taken kept) (sym taken) (taken_keeps old.taken b kept here)
+    subst (λ (p : PoolState). Contains p.taken kept) (sym taken) (with_keeps old.taken b kept here)
 
 pub give-requires : goal.give-requires
 give-requires c =

@@ -1,5 +1,5 @@
 use Rattle.std.proofs.Common.{◌≡◌, [], ◌∷◌, Some, refl, subst, ap}
-use Rattle.trace_io.specs.Memory.{SourceState, told}
+use Rattle.trace_io.specs.Memory.{SourceState, taken_bytes}
 use Rattle.papr_edge.specs.declared.command.Command.TheVariants as commands
 use Rattle.papr_edge.specs.Commands.{command_of}
 use Rattle.papr_edge.specs.Inputs.{trace_input}
@@ -15,8 +15,8 @@ returns c = λ done.
     let ran : Run = record {
       left = Some c.new-source.result.left;
       left_after = Some c.papr_serial.new.source.left;
-      taken = told c.args.sink.now;
-      taken_after = told c.papr_serial.new.sink;
+      taken = taken_bytes c.args.sink.now;
+      taken_after = taken_bytes c.papr_serial.new.sink;
     } in
     let ends : EndsReading trace_input (WithDone IsSerialText) ran c.papr_serial.result = rw word at
     c.papr_serial.ensures.ends.outcome in

@@ -1,5 +1,5 @@
 use Rattle.std.proofs.Common.{◌≡◌, [], ◌∷◌, Some, refl, subst, ap}
-use Rattle.trace_io.specs.Memory.{SourceState, told}
+use Rattle.trace_io.specs.Memory.{SourceState, taken_bytes}
 use Rattle.papr_edge.specs.declared.command.Command.TheVariants as commands
 use Rattle.papr_edge.specs.Commands.{command_of}
 use Rattle.papr_edge.specs.Inputs.{trace_input}
@@ -15,8 +15,8 @@ returns g c = λ done.
     let ran : Run = record {
       left = Some c.new-source.result.left;
       left_after = Some c.papr.new.source.left;
-      taken = told c.args.sink.now;
-      taken_after = told c.papr.new.sink;
+      taken = taken_bytes c.args.sink.now;
+      taken_after = taken_bytes c.papr.new.sink;
     } in
     let ends : EndsReading trace_input (WithDone IsParallelText) ran c.papr.result = rw word at
     c.papr.ensures.ends.outcome in

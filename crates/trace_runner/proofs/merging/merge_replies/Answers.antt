@@ -4,11 +4,11 @@ use Rattle.std.proofs.lemmas.List.{length-set}
 use Rattle.run_model.specs.AllStores.{windows_in}
 use Rattle.trace_runner.specs.Workers.{lines_of_cpu}
 use Rattle.run_model.specs.StoreNumbers.{store_of, lines_on_store}
-use Rattle.trace_runner.proofs.DealtLines.{past}
 use Rattle.trace_runner.proofs.MergedReplies.{Merging, merging_none, merging_store, merging_first, merging_more, merging_all}
 use Rattle.trace_runner.proofs.merging.merge_replies.Given.{Over}
 use Rattle.trace_runner.proofs.merging.merge_replies.Goals.{After-index_mut}
 use Rattle.trace_runner.proofs.merging.merge_replies.Goals as goal
+use Rattle.trace_line.specs.Lines.{past_lines}
 
 pub loop-line-init : goal.loop-line-init
 loop-line-init g c = record {
@@ -24,13 +24,13 @@ taken :
     (g : Over) (c : After-index_mut g)
     →
     (store_of (windows_in c.args.windows.now)
-    (get_or c.args.lines.now c.loop-line.line-index past).act
+    (get_or c.args.lines.now c.loop-line.line-index past_lines).act
     < length c.loop-line.logs.items)
     ×
     (c.index_mut.result.now
     ≡ get_or c.loop-line.logs.items
     (store_of (windows_in c.args.windows.now)
-    (get_or c.args.lines.now c.loop-line.line-index past).act) c.index_mut.result.now)
+    (get_or c.args.lines.now c.loop-line.line-index past_lines).act) c.index_mut.result.now)
 taken g c =
     let logs = c.loop-line.logs.items in
     let is = c.store_of-store.ensures.store in
@@ -49,7 +49,8 @@ index_mut-requires-in-loop-line g c =
     let logs = c.loop-line.logs.items in
     let own = c.index_mut.result.now in
     let own_logs = taken g (goal.at.index_mut-requires-in-loop-line g c).After-index_mut in
-    let h = merging_store g.L.ReplyLog.keeps g.L.RunLog.has ws lines k past c.requires.kept.0 logs
+    let h =
+    merging_store g.L.ReplyLog.keeps g.L.RunLog.has ws lines k past_lines c.requires.kept.0 logs
     own c.args.output.now c.loop-line.output c.loop-line-test.true own_logs.0 own_logs.1
     (i.merging c.requires.kept.0 c.requires.kept.1) in
     omega (arith, h.cpus.0, own.ok.0)
@@ -60,12 +61,13 @@ move_first-requires g c =
     let ws = windows_in c.args.windows.now in
     let lines = c.args.lines.now in
     let k = c.loop-line.line-index in
-    let l = get_or lines k past in
+    let l = get_or lines k past_lines in
     let logs = c.loop-line.logs.items in
     let own = c.index_mut.result.now in
     let log = c.index_mut-in-loop-line.result.now in
     let own_logs = taken g (goal.at.move_first-requires g c).After-index_mut in
-    let first = merging_first g.L.ReplyLog.keeps g.L.RunLog.has ws lines k past c.requires.kept.0
+    let first =
+    merging_first g.L.ReplyLog.keeps g.L.RunLog.has ws lines k past_lines c.requires.kept.0
     logs own c.args.output.now c.loop-line.output log c.loop-line-test.true own_logs.0
     own_logs.1 c.index_mut-in-loop-line.ensures.value
     (i.merging c.requires.kept.0 c.requires.kept.1) in
@@ -85,7 +87,7 @@ loop-line-preserved g c =
     let ws = windows_in c.args.windows.now in
     let lines = c.args.lines.now in
     let k = c.loop-line.line-index in
-    let l = get_or lines k past in
+    let l = get_or lines k past_lines in
     let logs = c.loop-line.logs.items in
     let own = c.index_mut.result.now in
     let log = c.index_mut-in-loop-line.result.now in
@@ -101,7 +103,7 @@ loop-line-preserved g c =
           (λ n.
           Merging keeps has ws lines (k + 1) picks (set logs n new_own) c.args.output.now
           c.move_first.new.output) (sym c.store_of-store.ensures.store)
-          (merging_more keeps has ws lines k past picks logs own c.args.output.now
+          (merging_more keeps has ws lines k past_lines picks logs own c.args.output.now
           c.loop-line.output log c.move_first.new.self new_own c.move_first.new.output
           c.loop-line-test.true own_logs.0 own_logs.1
           c.index_mut-in-loop-line.ensures.value refl c.in_ok-move_first.ensures.left

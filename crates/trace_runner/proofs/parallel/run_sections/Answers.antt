@@ -1,18 +1,14 @@
 use Rattle.std.proofs.Common.{◌≡◌, ◌+◌, ◌++◌, ◌<◌, ◌≤◌, ◌∙◌, sym, subst, refl, get_or, false, length, [], ◌∷◌, arith}
 use Rattle.std.specs.List.{AllByRecursion}
 use Rattle.trace_line.specs.declared.line.TraceLine.{TraceLine}
-use Rattle.trace_line.specs.declared.act.Act.TheVariants.{Call}
 use Rattle.run_model.specs.Quiet.{NoneQuiet}
-use Rattle.trace_runner.proofs.MergedReplies.{each_at}
 use Rattle.trace_runner.proofs.PartsOfLines.{part, no_quiet_more, no_quiet_yet, part_each}
 use Rattle.trace_runner.proofs.SectionsRun.{done_none, done_more, put_more, run_ended}
 use Rattle.trace_runner.proofs.parallel.run_sections.Goals as goal
 use Rattle.trace_runner.proofs.parallel.run_sections.Goals.{then-is_quiet+in_ok-machine, else-is_quiet}
 use Rattle.trace_read.specs.Configuration.{most_processors}
-
--- what a read past the end would give
-abbrev d : TraceLine
-d = record { number = 0; cpu = 0; act = Call 0 [] false }
+use Rattle.basics.proofs.Each.{each_within}
+use Rattle.trace_line.specs.Lines.{past_lines}
 
 pub loop-i-init : goal.loop-i-init
 loop-i-init g c = record {
@@ -38,9 +34,10 @@ section_to_quiet-requires-clause-few g c κs within =
 
 pub section_to_quiet-requires-clause-cpu : goal.section_to_quiet-requires-clause-cpu
 section_to_quiet-requires-clause-cpu g c κs within =
-    subst (λ n. (get_or c.args.lines.now c.loop-i.i d).cpu < n) (sym c.loop-i.invariant.processors)
-    (each_at (λ (l : TraceLine). l.cpu < length c.args.opened.table.processors) c.args.lines.now
-    c.loop-i.i d c.requires.cpus c.loop-i-test.true)
+    subst (λ n. (get_or c.args.lines.now c.loop-i.i past_lines).cpu < n)
+    (sym c.loop-i.invariant.processors)
+    (each_within (λ (l : TraceLine). l.cpu < length c.args.opened.table.processors) c.args.lines.now
+    c.loop-i.i past_lines c.requires.cpus c.loop-i-test.true)
 
 pub section_to_quiet-requires-clause-number : goal.section_to_quiet-requires-clause-number
 section_to_quiet-requires-clause-number g c κs within =
@@ -62,12 +59,13 @@ loop-i-preserved g c =
                 omega (arith, q.number, e.sectioned.stays.number, i.number);
             replies = (i.replies ++ e.news) ++ q.reply ∷ [];
             put =
-                put_more g.L.RunLog.has c.args.lines.now c.loop-i.start c.loop-i.i d i.replies
+                put_more g.L.RunLog.has c.args.lines.now c.loop-i.start c.loop-i.i past_lines
+                i.replies
                 e.news q.reply c.loop-i.output q.between w.section_to_quiet.new.output i.low
                 c.loop-i-test.true i.put e.grown q.put;
             done =
                 done_more c.args.opened c.loop-i.machine q.next w.in_ok-machine.machine
-                c.args.lines.now c.loop-i.start c.loop-i.i d i.replies e.news q.reply i.low
+                c.args.lines.now c.loop-i.start c.loop-i.i past_lines i.replies e.news q.reply i.low
                 c.loop-i-test.true i.done i.none_quiet e.sectioned
                 (sym c.is_quiet.ensures ∙ w.if-is_quiet.true) q.ran;
           })
@@ -75,7 +73,8 @@ loop-i-preserved g c =
           rw (w.machine-is, w.output-is, w.start-is) (record {
             low = omega (arith, i.low);
             none_quiet =
-                no_quiet_more c.args.lines.now c.loop-i.start c.loop-i.i d i.low c.loop-i-test.true
+                no_quiet_more c.args.lines.now c.loop-i.start c.loop-i.i past_lines i.low
+                c.loop-i-test.true
                 i.none_quiet (sym c.is_quiet.ensures ∙ w.if-is_quiet.false);
             processors = i.processors;
             number = omega (arith, i.number);

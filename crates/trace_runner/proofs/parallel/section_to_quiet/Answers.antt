@@ -1,5 +1,5 @@
 use Rattle.std.proofs.Common.{◌<◌, sym, subst, arith}
-use Rattle.trace_reply.specs.Places.{reply_in}
+use Rattle.trace_reply.specs.Slots.{reply_in}
 use Rattle.trace_runner.proofs.parallel.section_to_quiet.Goals as goal
 
 pub line-requires-clause-cpu : goal.line-requires-clause-cpu
@@ -18,7 +18,7 @@ returns g c =
       next = c.in_ok-later.later;
       between = c.section.new.output;
       section = c.in_ok-later.ensures;
-      reply = reply_in c.line.new.place;
+      reply = reply_in c.line.new.slot;
       ran = line.reply;
       put = c.in_ok-put.ensures;
       number = line.number;

@@ -4,7 +4,7 @@ use Rattle.entry_lock.specs.declared.table.LockTable.{LockTable}
 use Rattle.entry_lock.specs.declared.table.Pass.{Pass}
 use Rattle.entry_lock.specs.PassOfTable.{view_of}
 use Rattle.trace_reply.specs.Replies.{receipts_in}
-use Rattle.trace_reply.specs.Places.{reply_in}
+use Rattle.trace_reply.specs.Slots.{reply_in}
 use Rattle.run_model.specs.ParallelRun.{WorksLine}
 use Rattle.run_model.specs.StoreContexts.{context_on}
 use Rattle.trace_runner.specs.Workers.{replied_line, IsSeenBy}
@@ -28,10 +28,10 @@ returns-clause-line g c =
     (subst
     (λ (z : LockTable × (Pass × Pass)).
     WorksLine (context_on z.0.order c.args.around.now) (view_of z.1.0).fronts c.args.cpu.now
-    (replied_line c.args.line.now (reply_in c.run_act.new.place)) (view_of z.1.1).fronts)
+    (replied_line c.args.line.now (reply_in c.run_act.new.slot)) (view_of z.1.1).fronts)
     (λ j. (e.1 j, (e.0 j, sym c.into_pass.ensures j)))
     (line_works a.table.now c.args.around.now c.args.line.now c.args.cpu.now a.pass b.pass
-    (reply_in c.run_act.new.place) k.made.0 size k.call k.access k.comes_later k.gone))
+    (reply_in c.run_act.new.slot) k.made.0 size k.call k.access k.comes_later k.gone))
 
 pub returns-clause-size : goal.returns-clause-size
 returns-clause-size g c =
@@ -42,7 +42,7 @@ returns-clause-size g c =
     rw c.into_pass.ensures
     (kept_size (view_of c.new.result.pass).fronts
     (view_of c.run_act.new.store.store.pass).fronts
-    (receipts_in (reply_in c.run_act.new.place)) _ c.run_act.ensures.made.0.made.fronts
+    (receipts_in (reply_in c.run_act.new.slot)) _ c.run_act.ensures.made.0.made.fronts
     size)
 
 pub returns-clause-seen : goal.returns-clause-seen

@@ -4,12 +4,13 @@ use Rattle.std.proofs.lemmas.List.{take_more, take_all, get_or_read}
 use Rattle.entry_lock.specs.declared.table.Pass.{Pass}
 use Rattle.run_model.specs.StoreContexts.{context_on}
 use Rattle.trace_line.specs.declared.line.TraceLine.{TraceLine}
-use Rattle.trace_reply.specs.Places.{reply_in}
+use Rattle.trace_reply.specs.Slots.{reply_in}
 use Rattle.trace_runner.specs.Workers.{HasRun, lines_of_cpu}
-use Rattle.trace_runner.proofs.MergedReplies.{each_at}
-use Rattle.trace_runner.proofs.DealtLines.{past, line_at, as_many, all_own, own_of_own}
+use Rattle.trace_runner.proofs.DealtLines.{line_at, as_many, all_own, own_of_own}
 use Rattle.trace_runner.proofs.WorkSteps.{Ran, own_run, same_run, has_start}
 use Rattle.trace_runner.proofs.worker.work.Goals as goal
+use Rattle.basics.proofs.Each.{each_within}
+use Rattle.trace_line.specs.Lines.{past_lines}
 
 pub loop-i-init : goal.loop-i-init
 loop-i-init g c =
@@ -39,7 +40,7 @@ bounds-lines-index g c =
     let within : c.loop-i.i < length own = omega (arith, c.loop-i-test.true, i.count) in
     subst (λ m. m < length c.args.lines.now)
     (sym (get_or_read own c.loop-i.i _ within c.index-index.ensures 0))
-    (each_at (λ m. m < length c.args.lines.now) own c.loop-i.i 0 i.own.inside within)
+    (each_within (λ m. m < length c.args.lines.now) own c.loop-i.i 0 i.own.inside within)
 
 pub keep-requires-clause-room : goal.keep-requires-clause-room
 keep-requires-clause-room g c =
@@ -60,14 +61,16 @@ loop-i-preserved g c =
     let set = context_on c.args.table.now.order c.args.around.now in
     let inside : k < length own = omega (arith, c.loop-i-test.true, i.count) in
     let within : k < length mine = omega (arith, inside, as_many lines own mine i.own) in
-    let is : get_or mine k past ≡ get_or lines c.index-index.result.now past = line_at lines own
-    mine k past inside i.own ∙ ap (λ m. get_or lines m past)
+    let is :
+    get_or mine k past_lines ≡ get_or lines c.index-index.result.now past_lines =
+    line_at lines own
+    mine k past_lines inside i.own ∙ ap (λ m. get_or lines m past_lines)
     (sym (get_or_read own k _ inside c.index-index.ensures 0)) in
-    let of_cpu : eqb (get_or mine k past).cpu n ≡ true = each_at
-    (λ (l : TraceLine). eqb l.cpu n ≡ true) mine k past (all_own n lines) within in
+    let of_cpu : eqb (get_or mine k past_lines).cpu n ≡ true = each_within
+    (λ (l : TraceLine). eqb l.cpu n ≡ true) mine k past_lines (all_own n lines) within in
     let e = c.answer-pass.ensures in
-    let r = reply_in c.answer-pass.new.place in
-    let ran : Ran set c.args.table.now (get_or lines c.index-index.result.now past)
+    let r = reply_in c.answer-pass.new.slot in
+    let ran : Ran set c.args.table.now (get_or lines c.index-index.result.now past_lines)
     c.loop-i.worker.cpu c.answer-pass.new.cpu c.loop-i.pass c.answer-pass.result r = record {
       of = e.of;
       share = e.share;
@@ -84,11 +87,12 @@ loop-i-preserved g c =
       replies = i.replies ++ r ∷ [];
       kept =
           subst (λ ls. keeps c.keep.new.self ls (i.replies ++ r ∷ []))
-          (sym (take_more mine k past within))
+          (sym (take_more mine k past_lines within))
           (subst (λ l. keeps c.keep.new.self (take k mine ++ l ∷ []) (i.replies ++ r ∷ []))
           (sym is) (c.keep.ensures.kept (take k mine) i.replies i.kept));
       run =
-          own_run set c.args.table.now n mine k past i.replies (i.replies ++ r ∷ []) c.loop-i.worker
+          own_run set c.args.table.now n mine k past_lines i.replies (i.replies ++ r ∷ [])
+          c.loop-i.worker
           _ c.loop-i.pass c.answer-pass.result r within of_cpu i.run refl refl
           (subst
           (λ l.

@@ -5,7 +5,7 @@ use Rattle.trace_line.specs.Lines.{is_quiet, most_lines}
 use Rattle.trace_line.specs.declared.line.TraceLine.{TraceLine}
 use Rattle.run_model.specs.AllStores.{WindowState, AllStores, windows_in}
 use Rattle.run_model.specs.StoreNumbers.{store_of, lines_on_store}
-use Rattle.run_model.proofs.Each.{each_filter, filter_length}
+use Rattle.basics.proofs.Each.{each_filter, filter_length}
 use Rattle.run_model.proofs.StoreNumbers.{same_count}
 use Rattle.run_model.specs.Quiet.{NoneQuiet, AreOnProcessors}
 use Rattle.history_check.specs.FoundStores.{windows_of, AreFound}
@@ -168,6 +168,6 @@ returns-clause-some c =
     c.loop-number.invariant.named found in (
       all.0,
       subst (λ z. AreFound s c.args.lines.now c.args.text.now all.0 z)
-          (sym c.lines_end.ensures.behind) all.1,
+          (sym c.replies_end.ensures.behind) all.1,
       all.2,
     )

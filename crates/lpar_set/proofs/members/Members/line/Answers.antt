@@ -3,7 +3,7 @@ use Rattle.std.proofs.lemmas.List.{get_or_default}
 use Rattle.hpt_resize.specs.Resize.{IsHeld}
 use Rattle.hpt_pool.specs.Pool.{block_at}
 use Rattle.std.specs.Prelude.{Contains}
-use Rattle.trace_reply.specs.Places.{reply_in}
+use Rattle.trace_reply.specs.Slots.{reply_in}
 use Rattle.lpar_set.specs.SetRun.{MemberState, SetState, no_member, member_at}
 use Rattle.lpar_set.proofs.SetSteps.{own_taken, own_pending, still_set}
 use Rattle.lpar_set.proofs.members.Members.line.Goals as goal
@@ -42,5 +42,5 @@ invariant_of-self c =
     let is : c.index_mut.result.now ≡ member_at w c.args.partition = c.index_mut.ensures.value ∙
     get_or_default w.members c.args.partition c.index_mut.result.now no_member inside in
     still_set c.line.result w c.args.partition c.index_mut.result.now c.line.new.self
-    c.line.new.pool c.args.line.now (reply_in c.line.new.place) c.self.invariant inside is
+    c.line.new.pool c.args.line.now (reply_in c.line.new.slot) c.self.invariant inside is
     c.line.ensures.reply c.line.ensures.same c.line.ensures.same_pool

@@ -1,5 +1,5 @@
 use Rattle.std.proofs.Common.{◌≡◌, ◌∙◌, ap, sym, List, None}
-use Rattle.trace_reply.specs.Places.{reply_in}
+use Rattle.trace_reply.specs.Slots.{reply_in}
 use Rattle.run_model.specs.AllStores.{WindowState, AllStores}
 use Rattle.run_model.specs.StoreNumbers.{index_from}
 use Rattle.trace_runner.proofs.WindowIndices.{quiet_steps, steps_on_table}
@@ -8,7 +8,7 @@ use Rattle.trace_runner.proofs.machine.Machine.line.Goals as goal
 pub returns-then-is_quiet-clause-reply : goal.returns-then-is_quiet-clause-reply
 returns-then-is_quiet-clause-reply c =
     quiet_steps c.quiet.result c.args.self.now c.quiet.new.self c.args.line.now
-    (reply_in c.quiet.new.place) c.quiet.ensures.named
+    (reply_in c.quiet.new.slot) c.quiet.ensures.named
     (sym c.is_quiet.ensures ∙ c.if-is_quiet.true) c.quiet.ensures.reply c.quiet.ensures.windows
 
 pub returns-in-None-clause-reply : goal.returns-in-None-clause-reply
@@ -19,6 +19,6 @@ returns-in-None-clause-reply c =
     (sym c.as_slice.ensures.value)
     ∙ sym c.window_of.ensures
     ∙ c.in-None.is in
-    steps_on_table c.args.self.now c.run.new.self c.args.line.now (reply_in c.run.new.place)
+    steps_on_table c.args.self.now c.run.new.self c.args.line.now (reply_in c.run.new.slot)
     (sym (ap (λ (s : AllStores). s.table.window) c.self.view_is)) none c.run.ensures.reply
     c.run.ensures.windows

@@ -1,7 +1,7 @@
 use Rattle.std.proofs.Common.{◌≡◌, ◌∙◌, true, ap, sym, subst, refl, arith, Some, set}
 use Rattle.frame_grants.specs.Grants.{GrantedMemory}
 use Rattle.trace_read.specs.Configuration.{NumbersDiffer}
-use Rattle.trace_reply.specs.Places.{reply_in}
+use Rattle.trace_reply.specs.Slots.{reply_in}
 use Rattle.tlb_model.specs.Processor.{new_processor}
 use Rattle.run_model.specs.AllStores.{WindowState, AllStores, windows_in, machine_stores}
 use Rattle.run_model.specs.SerialRun.{line_result}
@@ -66,18 +66,18 @@ returns-clause-reply c =
     let u = c.line.new.self in
     let first = subst (λ (s : AllStores). index_from 0 s.windows act ≡ Some c.args.at)
     (sym c.self.view_is) c.requires.first in
-    let ran : (reply_in c.line.new.place, u.states) ≡ line_result
+    let ran : (reply_in c.line.new.slot, u.states) ≡ line_result
     (window_context m.partition.granted.grants v.window) new_processor v.states act =
     c.line.ensures.reply ∙ ap
     (λ (granted : GrantedMemory).
     line_result (window_context granted.grants v.window) new_processor v.states act)
     c.grants.ensures in
     let steps = steps_on_window s (record s { windows = set s.windows c.args.at u }) c.args.line.now
-    (reply_in c.line.new.place) c.args.at v u refl first c.index_mut.ensures.value ran
+    (reply_in c.line.new.slot) c.args.at v u refl first c.index_mut.ensures.value ran
     c.line.ensures.window refl in
     subst
     (λ (z : AllStores).
-    RunsLine z c.args.line.now (reply_in c.line.new.place)
+    RunsLine z c.args.line.now (reply_in c.line.new.slot)
     (record s { windows = set s.windows c.args.at u })) c.self.view_is steps
 
 pub returns-clause-windows : goal.returns-clause-windows

@@ -1,6 +1,6 @@
 ghost use Rattle.std.specs.Prelude.{◌≡◌, true, Option, Some, None};
 ghost use Rattle.shared_pass.specs.declared.working.Working.{Working};
-ghost use Rattle.shared_pass.specs.Owned.{held_coded, place_owns};
+ghost use Rattle.shared_pass.specs.Owned.{held_coded, pointer_owns};
 ghost use Rattle.shared_pass.specs.Holding.{is_some};
 
 use crate::parts::Parts;
@@ -12,32 +12,32 @@ use std::ptr::null_mut;
 /// A boxed pass at work, or nothing, by its pointer. Dropping it frees nothing.
 #[repr(C)]
 #[derive(Drop)]
-pub struct Place {
+pub struct WorkingPointer {
     at: *mut u8,
     alloc: Global,
     pub ghost held: { Option Working } by { held_coded },
 }
 
-impl Model for Place {
-    ghost also_owns = { λ s. place_owns s.alloc s.at s.held };
+impl Model for WorkingPointer {
+    ghost also_owns = { λ s. pointer_owns s.alloc s.at s.held };
 }
 
-impl Place {
+impl WorkingPointer {
     /// Nothing.
-    pub(crate) fn none(alloc: Global) -> Place
+    pub(crate) fn none(alloc: Global) -> WorkingPointer
         ensures { result.held ≡ None }
     {
-        Place {
+        WorkingPointer {
             at: null_mut(),
             alloc,
         }
     }
 
-    fn of_parts(parts: Parts<Working, Global>) -> Place
+    fn of_parts(parts: Parts<Working, Global>) -> WorkingPointer
         ensures { result.held ≡ Some parts.value }
     {
         let Parts { ptr, alloc } = parts;
-        Place {
+        WorkingPointer {
             at: ptr as *mut u8,
             alloc,
         }
@@ -47,7 +47,7 @@ impl Place {
         requires { is_some self.held ≡ true }
         ensures { self.held ≡ Some result.value }
     {
-        let Place { at, alloc } = self;
+        let WorkingPointer { at, alloc } = self;
         Parts {
             ptr: at as *mut Working,
             alloc,
@@ -55,10 +55,10 @@ impl Place {
     }
 
     /// What is in the box.
-    pub(crate) fn of(working: Box<Working>) -> Place
+    pub(crate) fn of(working: Box<Working>) -> WorkingPointer
         ensures { result.held ≡ Some working.value }
     {
-        Place::of_parts(Parts::of(working))
+        WorkingPointer::of_parts(Parts::of(working))
     }
 
     /// The box.
@@ -71,4 +71,4 @@ impl Place {
 }
 
 // What is in the box may go to another thread: a table that threads share, and a pass.
-unsafe impl Send for Place {}
+unsafe impl Send for WorkingPointer {}

@@ -1,7 +1,7 @@
 use Rattle.std.proofs.Common.{◌∙◌, sym, length, arith}
 use Rattle.history_check.proofs.ListedStates.{past_end, to_end}
 use Rattle.history_check.proofs.PartedTexts.{first_none, cut_here}
-use Rattle.history_check.proofs.parting.cut_line.Goals as goal
+use Rattle.history_check.proofs.parting.cut_reply.Goals as goal
 
 pub returns-in-None-clause-first : goal.returns-in-None-clause-first
 returns-in-None-clause-first c =
@@ -19,12 +19,12 @@ pub returns-in-Some-clause-first : goal.returns-in-Some-clause-first
 returns-in-Some-clause-first c =
     c.split_at-in-Some.ensures.front
     ∙
-    (cut_here c.in-Some.told.now c.in-Some.field-0-1.now c.args.text.now c.in-Some.ensures.lacks
+    (cut_here c.in-Some.own.now c.in-Some.field-0-1.now c.args.text.now c.in-Some.ensures.lacks
     c.in-Some.ensures.parts).0
 
 pub returns-in-Some-clause-behind : goal.returns-in-Some-clause-behind
 returns-in-Some-clause-behind c =
     c.split_at-in-Some.ensures.back
     ∙
-    (cut_here c.in-Some.told.now c.in-Some.field-0-1.now c.args.text.now c.in-Some.ensures.lacks
+    (cut_here c.in-Some.own.now c.in-Some.field-0-1.now c.args.text.now c.in-Some.ensures.lacks
     c.in-Some.ensures.parts).1

@@ -1,5 +1,5 @@
 use Rattle.history_check.proofs.FirstLines.{none_lacks, first_lacks, first_parts}
-use Rattle.history_check.proofs.reading.first_line.Goals as goal
+use Rattle.history_check.proofs.reading.first_reply.Goals as goal
 
 pub returns-in-None-clause-none : goal.returns-in-None-clause-none
 returns-in-None-clause-none c = none_lacks 10 c.args.text.now c.in-None.ensures

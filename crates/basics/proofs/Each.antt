@@ -1,6 +1,6 @@
 -- Facts of each element of a list.
 use Rattle.std.specs.Prelude.{filter, replicate}
-use Rattle.std.proofs.Common.{◌≡◌, ℕ, zero, suc, ◌<◌, ◌≤◌, List, [], ◌∷◌, ◌++◌, Bool, true, false, refl, sym, ◌∙◌, ◌⊎◌, inl, inr, get_or, set, map, drop, length, arith}
+use Rattle.std.proofs.Common.{◌≡◌, ℕ, zero, suc, ◌<◌, ◌≤◌, List, [], ◌∷◌, ◌++◌, Bool, true, false, refl, sym, ◌∙◌, ◌⊎◌, inl, inr, get_or, set, map, length, arith}
 use Rattle.std.specs.List.{AllByRecursion}
 use Rattle.std.proofs.lemmas.Bool.{cases_Bool, cond_both, false≢true}
 
@@ -51,6 +51,16 @@ pub each_at :
 each_at P [] i d p h = p
 each_at P (x ∷ xs) zero d p h = h.0
 each_at P (x ∷ xs) (suc i) d p h = each_at P xs i d p h.1
+
+-- The same, of an index that is one of the list's.
+pub each_within :
+    {A : Type 0} (P : A → Type 0) (xs : List A) (i : ℕ) (d : A)
+    → AllByRecursion P xs
+    → i < length xs
+    → P (get_or xs i d)
+each_within P [] i d h k = absurd (omega arith)
+each_within P (x ∷ xs) zero d h k = h.0
+each_within P (x ∷ xs) (suc i) d h k = each_within P xs i d h.1 (omega arith)
 
 -- What each has by its index, all have.
 pub each_by_index :
@@ -120,11 +130,6 @@ pub each_both :
     → AllByRecursion (λ x. P x × Q x) xs
 each_both P Q [] h k = tt
 each_both P Q (x ∷ xs) h k = ((h.0, k.0), each_both P Q xs h.1 k.1)
-
-pub each_drop_one :
-    {A : Type 0} (P : A → Type 0) (xs : List A) → AllByRecursion P xs → AllByRecursion P (drop 1 xs)
-each_drop_one P [] h = tt
-each_drop_one P (x ∷ xs) h = h.1
 
 pub each_of_map :
     {A B : Type 0} (P : B → Type 0) (f : A → B) (xs : List A)

@@ -1,5 +1,5 @@
 ghost use Rattle.std.specs.Prelude.{◌≡◌, true};
-ghost use Rattle.trace_reply.specs.Places.{reply_in};
+ghost use Rattle.trace_reply.specs.Slots.{reply_in};
 
 use crate::reply::Reply;
 use crate::shown::Shown;
@@ -24,28 +24,28 @@ pub enum ReplyEnd {
     Dump(Shown),
 }
 
-/// A place that the replies to many lines take one after the other, so that the room for receipts
+/// A slot that the replies to many lines take one after the other, so that the room for receipts
 /// is made once. Where the reply has none, what lies in `receipts` isn't part of it.
 #[derive(Drop)]
-pub struct ReplyPlace {
+pub struct ReplySlot {
     /// How the reply ended, without its receipts.
     pub end: ReplyEnd,
     /// The receipts, where the reply has some.
     pub receipts: Receipts,
 }
 
-impl ReplyPlace {
-    /// A place, with a change of segments that was accepted as its first reply.
-    pub fn new() -> ReplyPlace
+impl ReplySlot {
+    /// A slot, with a change of segments that was accepted as its first reply.
+    pub fn new() -> ReplySlot
         ensures { reply_in result ≡ Reply.Segment true }
     {
-        ReplyPlace {
+        ReplySlot {
             end: ReplyEnd::Segment(true),
             receipts: Receipts::new(),
         }
     }
 
-    /// Gives the place to a reply that was made elsewhere.
+    /// Gives the slot to a reply that was made elsewhere.
     pub fn put(&mut self, reply: Reply)
         ensures { reply_in self.new ≡ reply }
     {
@@ -80,11 +80,11 @@ impl ReplyPlace {
         }
     }
 
-    /// The reply that has the place.
+    /// The reply that is in the slot.
     pub fn into_reply(self) -> Reply
         ensures { result ≡ reply_in self }
     {
-        let ReplyPlace { end, receipts } = self;
+        let ReplySlot { end, receipts } = self;
         match end {
             ReplyEnd::Hcall(registers) => Reply::Hcall(registers.into_reply(receipts)),
             ReplyEnd::Access(end) => Reply::Access(end.into_reply(receipts)),

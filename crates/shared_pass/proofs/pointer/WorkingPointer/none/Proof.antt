@@ -1,4 +1,4 @@
--- `none` makes a place that owns nothing.
+-- `none` makes a pointer that owns nothing.
 use Rattle.std.proofs.Common.{List, [], ◌∷◌, ◌++◌, refl, sym, subst}
 use seplogic.Ra.Ura.{Ura}
 use mir.Val.{Val, vstruct, vcons, vnil}
@@ -34,11 +34,11 @@ use Rattle.core.proofs.atomic.Steps.{Ptr-Good}
 use Rattle.std_alloc.proofs.ResultValues.{and_tt}
 use Rattle.std_heap.specs.contracts.Global as Heap
 use Rattle.shared_pass.proofs.AsBox.{E, FromGlobal as From}
-use Rattle.shared_pass.specs.contracts.place.Place as place
-use Rattle.shared_pass.specs.contracts.place.Place.none as F
-use Rattle.shared_pass.specs.contracts.place.Place.none.Key.{name as #self}
-use Rattle.shared_pass.proofs.place.Place.none.Statement as stated
-use Rattle.shared_pass.proofs.place.Place.none.Code as code
+use Rattle.shared_pass.specs.contracts.pointer.WorkingPointer as pointer
+use Rattle.shared_pass.specs.contracts.pointer.WorkingPointer.none as F
+use Rattle.shared_pass.specs.contracts.pointer.WorkingPointer.none.Key.{name as #self}
+use Rattle.shared_pass.proofs.pointer.WorkingPointer.none.Statement as stated
+use Rattle.shared_pass.proofs.pointer.WorkingPointer.none.Code as code
 
 abbrev stayed : Stays (F.ended).signature.params (F.ended).kept
 stayed = (stay_dropped From yes, tt)
@@ -54,12 +54,12 @@ module _ {M : Type 1} {𝓤 : Ura M} (𝓛 : Logic 𝓤) (at_mem : Memory → SP
   walk z =
       let Post = (walk_of 𝓛 F.ended stayed (F.clauses 𝓛 at_mem run)).post z in
       let a = z.0.3.0 in
-      let made : place.the_row.Denot = record { at = null_ptr; alloc = a; held = None } in
+      let made : pointer.the_row.Denot = record { at = null_ptr; alloc = a; held = None } in
       qed 𝓛 ((‵ ftrue ⊛ ‵ (fsep (Heap.the_row.own_val a z.0.4.0) ftrue)) ∷ raw (emp 𝓤) ∷ []) ∵ split
       ! $ drop ! $ fsplit ! $
       handle_tells E.al ! a z.0.4.0 (λ h ws fa. move ! (1 ∷ 2 ∷ []) $ drop ! $ drop ! $
       let v : Val = vstruct (vcons (ptr_val null_ptr) (vcons h vnil)) in
-      let typed : Good (layout place.the_row) v =
+      let typed : Good (layout pointer.the_row) v =
       (and_tt (has_ty (layout Heap.the_row) h) fa.0, ((Ptr-Good null_ptr).1, (fa.1, tt))) in
       let Γ : List (Item 𝓤) = ‵ (Heap.the_row.own_val a (h ∷ [])) ∷ [] in
       by !
@@ -74,7 +74,7 @@ module _ {M : Type 1} {𝓤 : Ura M} (𝓛 : Logic 𝓤) (at_mem : Memory → SP
       (ptr_val null_ptr ∷ []) (ptr_val null_ptr ∷ []) refl $ fjoin ! $ feq_i ! (List Val)
       (v ∷ []) (v ∷ []) refl $ fjoin ! $
       fpack ! (Valss (RawPtr ∷ Heap.the_row ∷ []))
-      (within (shape place.the_type) (to place.the_type made) (v ∷ []))
+      (within (shape pointer.the_type) (to pointer.the_type made) (v ∷ []))
       (ptr_val null_ptr ∷ [], (h ∷ [], tt)) $ fjoin ! $
       suffices ! _ (ends_at 𝓛 F.ended stayed (F.clauses 𝓛 at_mem run) z v made (tt, tt) (tt, tt)) $
       says ! refl $

@@ -1,35 +1,39 @@
--- `of_parts` moves two fields, and what they own goes with them.
+-- `into_parts` moves two fields, and what they own goes with them.
 use mathlib.Core.Path.{refl, sym, subst}
 use mathlib.Core.List.{List, [], ◌∷◌, ◌++◌}
 use seplogic.Ra.Ura.{Ura}
 use mir.Val.{Val}
-use Rattle.std.specs.Prelude.{Some}
-use base.Logic.{SProp, ent, emp, id⊢}
+use Rattle.std.specs.Prelude.{◌≡◌, true, Option, Some}
+use Rattle.shared_pass.specs.Holding.{is_some}
+use Rattle.shared_pass.proofs.HeldPointers.{some_of}
+use Rattle.shared_pass.specs.contracts.pointer.WorkingPointer as pointer
+use base.Logic.{SProp, ent, id⊢}
 use base.Fml.{ftrue, fsep}
 use prog.Memory.{Memory}
 use prog.Routine.{Routine}
 use prog.Wp.{WpFn, Tables}
 use types.Logic.{Logic}
-use contract.Monad.{Fun}
+use contract.Monad.{Fun, fact}
 use contract.Running.{tables, tables_of}
 use sound.WpLaws.{WpFn-mono}
-use types.Kit.{Item, ‵, raw, ◌⊛◌, ◌$◌, ◌∵◌, !, qed, by, move, drop, use1, join, split, fsplit, fjoin, suffices, done}
+use types.Kit.{Item, ‵, raw, ◌⊛◌, ◌$◌, ◌∵◌, !, qed, by, move, drop, use1, rewrite, join, split, fsplit, fjoin, suffices, done}
 use types.Part.{whole, sub, agg}
 use types.Run.{stop, fld, no_more, and_then, of_opd, returns, enter}
 use types.ByLocal.{alloc_all, pass_all, free_all, look_at, get, get_in, sets}
 use denote.Exit.{yes}
+use Rattle.shared_pass.specs.contracts.working.Working as working
 use denote.Signature.{type_at}
-use denote.Steps.{nothing}
+use denote.Steps.{nothing, heard}
 use denote.Triple.Spec.{triple_of}
 use denote.Triple.Table.{entered}
 use denote.Triple.Walked.{says, Stays, stay_dropped, walk_of, ends_at, Goes-dropped, walk_Meets}
 use Rattle.std_alloc.proofs.BoxSteps.Form.{D, B, word, box_typed}
 use Rattle.std_alloc.proofs.BoxSteps.Steps.{box_out, box_in}
-use Rattle.shared_pass.proofs.AsBox.{E, FromParts as From}
-use Rattle.shared_pass.specs.contracts.place.Place.of_parts as F
-use Rattle.shared_pass.specs.contracts.place.Place.of_parts.Key.{name as #self}
-use Rattle.shared_pass.proofs.place.Place.of_parts.Statement as stated
-use Rattle.shared_pass.proofs.place.Place.of_parts.Code as code
+use Rattle.shared_pass.proofs.AsBox.{E, FromPointer as From}
+use Rattle.shared_pass.specs.contracts.pointer.WorkingPointer.into_parts as F
+use Rattle.shared_pass.specs.contracts.pointer.WorkingPointer.into_parts.Key.{name as #self}
+use Rattle.shared_pass.proofs.pointer.WorkingPointer.into_parts.Statement as stated
+use Rattle.shared_pass.proofs.pointer.WorkingPointer.into_parts.Code as code
 
 abbrev stayed : Stays (F.ended).signature.params (F.ended).kept
 stayed = (stay_dropped From yes, tt)
@@ -44,15 +48,25 @@ module _ {M : Type 1} {𝓤 : Ura M} (𝓛 : Logic 𝓤) (at_mem : Memory → SP
       ((walk_of 𝓛 F.ended stayed (F.clauses 𝓛 at_mem run)).post z))
   walk z =
       let Post = (walk_of 𝓛 F.ended stayed (F.clauses 𝓛 at_mem run)).post z in
-      let v : D E = record { ptr = z.0.3.0.ptr; alloc = z.0.3.0.alloc; value = z.0.3.0.value } in
       let To = type_at (F.signature).result tt in
-      let made : To.Denot = record { at = v.ptr; alloc = v.alloc; held = Some v.value } in
-      qed 𝓛 ((‵ ftrue ⊛ ‵ (fsep ((B E).own_val v z.0.4.0) ftrue)) ∷ raw (emp 𝓤) ∷ []) ∵ split ! $
-      drop ! $ fsplit ! $
+      let d = z.0.3.0 in
+      qed 𝓛
+      ((‵ ftrue ⊛ ‵ (fsep (pointer.the_row.own_val d z.0.4.0) ftrue))
+      ∷ raw (fact 𝓤 (is_some d.held ≡ true))
+      ∷ []) ∵ move ! (1 ∷ []) $ heard ! (is_some d.held ≡ true)
+      (λ some. split ! $ drop ! $ fsplit ! $
+      let x : working.the_row.Denot = (some_of d.held some).0 in
+      let is : d.held ≡ Some x = (some_of d.held some).1 in
+      let v : D E = record { ptr = z.0.3.0.at; alloc = z.0.3.0.alloc; value = x } in
+      let made : To.Denot = record { ptr = v.ptr; alloc = v.alloc; value = v.value } in
+      rewrite ! 0
+      (λ (h : Option working.the_row.Denot).
+      ‵ (pointer.the_row.own_val (record { at = d.at; alloc = d.alloc; held = h }) z.0.4.0)) is
+      refl $ use1 𝓛 (‵ ((B E).own_val v z.0.4.0)) (id⊢ 𝓤 _) $
       box_out E ! v z.0.4.0
       (λ b o hv e ws fa.
       box_in E ! v b o v.value e refl $ use1 𝓛 (‵ (To.own_val made (word E hv b o ∷ [])))
-      (id⊢ 𝓤 _) $ move ! (1 ∷ 2 ∷ []) $ drop ! $ drop ! $
+      (id⊢ 𝓤 _) $ move ! (1 ∷ []) $ drop ! $
       let w = word E hv b o in
       let Γ : List (Item 𝓤) = ‵ (To.own_val made (w ∷ [])) ∷ [] in
       by !
@@ -67,12 +81,12 @@ module _ {M : Type 1} {𝓤 : Ura M} (𝓛 : Logic 𝓤) (at_mem : Memory → SP
       (agg ! (and_then ! (get ! refl) (and_then ! (get ! refl) (no_more !)))) refl
       (box_typed E hv b o fa) $ returns ! (look_at ! 0 refl) $ free_all ! refl $
       suffices ! _ (ends_at 𝓛 F.ended stayed (F.clauses 𝓛 at_mem run) z w made (tt, tt) (tt, tt)) $
-      says ! refl $
-      nothing ! $ nothing ! $ fjoin ! $ join ! $ nothing ! $ join ! $ done !))))
+      says ! is $
+      nothing ! $ nothing ! $ fjoin ! $ join ! $ nothing ! $ join ! $ done !)))))
 
-pub of_parts_spec : {M : Type 1} → stated.statement M
+pub into_parts_spec : {M : Type 1} → stated.statement M
 unfolding tables_of
-of_parts_spec 𝓤 𝓛 𝓜 𝓡 wired =
+into_parts_spec 𝓤 𝓛 𝓜 𝓡 wired =
     let 𝓣 : Tables 𝓤 𝓛.H = tables_of 𝓤 𝓛.H 𝓜 (tables 𝓤 𝓛.H 𝓜 𝓡 𝓡.env) in
     entered 𝓤 𝓛.H (triple_of 𝓛 F.signature (F.spec 𝓛 𝓜.mem 𝓡.returns)) 𝓣.C 𝓣.Λ #self code.function
     (code.unfolded 𝓤 𝓛.H 𝓜 𝓡 wired)

@@ -1,6 +1,6 @@
 -- A step of a pass on an entry keeps the rule.
 use Rattle.std.specs.Prelude.{slice_get}
-use Rattle.std.proofs.Common.{get_or, ◌≡◌, ◌≢◌, ◌⊎◌, ℕ, ◌+◌, ◌*◌, ◌<◌, ◌≤◌, Bool, true, false, List, [], ◌∷◌, length, set, length-set, inl, inr, ⊎_elim, refl, sym, ap, ◌∙◌, subst, arith, Option, Some, None}
+use Rattle.std.proofs.Common.{◌≡◌, ◌≢◌, ◌⊎◌, ℕ, ◌+◌, ◌*◌, ◌<◌, ◌≤◌, true, false, List, [], ◌∷◌, length, set, length-set, inl, inr, ⊎_elim, refl, sym, ap, ◌∙◌, subst, arith, Option, Some, None}
 use Rattle.std.proofs.lemmas.Bool.{false≢true}
 use Rattle.std.proofs.lemmas.Option.{slice_get_within}
 use mathlib.Core.Option.{some}
@@ -10,44 +10,32 @@ use Rattle.entry_model.specs.declared.receipt.Receipt.{Receipt}
 use Rattle.entry_model.specs.Receipt.{after_of}
 use Rattle.entry_model.specs.History.{pair_of}
 use Rattle.entry_model.specs.Fronts.{front_at, fronts_after, IsAhead}
-use Rattle.entry_model.proofs.FrontLaws.{front_set, after_rises}
+use Rattle.entry_model.proofs.FrontLaws.{front_set}
 use Rattle.entry_model.proofs.Sorted.{bits_low}
 use Rattle.lock_core.specs.declared.doing.Doing.{Doing}
 use Rattle.lock_core.specs.declared.entry.Entry.{Entry}
 use Rattle.lock_core.specs.declared.phase.Phase.{Phase}
-use Rattle.lock_core.specs.declared.phase.Phase.TheVariants.{Idle, Held, HeldShut, Looked}
+use Rattle.lock_core.specs.declared.phase.Phase.TheVariants.{HeldShut, Looked}
 use Rattle.lock_core.specs.declared.step.Step.{Step}
 use Rattle.lock_core.specs.declared.step_result.StepResult.{StepResult}
-use Rattle.lock_core.specs.Machine.{Actor, Machine, nobody, words_seen}
+use Rattle.lock_core.specs.Machine.{Actor, Machine, nobody, words_seen, HoldsEntry}
 use Rattle.lock_core.specs.Steps.{actor_after, entry_of, fits, step_result, names_entry}
 use Rattle.lock_core.specs.Runs.{run}
-use Rattle.lock_core.proofs.Kept.{HasLock, IsOn, Kept}
+use Rattle.lock_core.proofs.Kept.{IsOn, Kept}
 use Rattle.lock_core.proofs.Moves.{Tells, Change, put_both, lock_is_on, after_phase}
 use Rattle.lock_core.proofs.Opening.{run_kept}
 use Rattle.lock_core.proofs.Whole.{result_change}
 use Rattle.entry_lock.specs.declared.rule.View.{View}
 use Rattle.entry_lock.specs.declared.rule.Opening.{Opening}
 use Rattle.entry_lock.specs.Views.{states_of}
-use Rattle.entry_lock.specs.Rule.{ActsAs, HoldsEntry, WordsShow, AreStored, FrontFits, Shows, ShowsSteps, machine_after}
+use Rattle.entry_lock.specs.Rule.{ActsAs, WordsShow, AreStored, FrontFits, Shows, ShowsSteps, machine_after}
 use Rattle.entry_lock.specs.PassInvariants.{IsActing}
 use Rattle.entry_lock.specs.Laws.{IsOnEntry}
 use Rattle.entry_lock.proofs.MachineMoves.{Moves, may, moved_turn}
 use Rattle.entry_lock.proofs.TakenSteps.{own_after}
 use Rattle.entry_lock.proofs.Frame.{Fronts, other_phase, Frame, apart_from, shows_put}
 use lib.ListN.{get_elem?}
-
--- ---- holders
-pub to_lock : (e : ℕ) (p : Phase) → HoldsEntry e p → HasLock e p
-to_lock e Idle h = h
-to_lock e (Held d) h = h
-to_lock e (HeldShut d) h = h
-to_lock e (Looked d) h = h
-
-pub from_lock : (e : ℕ) (p : Phase) → HasLock e p → HoldsEntry e p
-from_lock e Idle h = h
-from_lock e (Held d) h = h
-from_lock e (HeldShut d) h = h
-from_lock e (Looked d) h = h
+use Rattle.lock_core.proofs.FrontsKept.{pair_rises}
 
 -- ---- pairs
 pub pair_low : (s : State) → s.stamp * 4 ≤ pair_of s
@@ -58,15 +46,8 @@ pub pair_high : (s : State) → pair_of s < (s.stamp + 1) * 4
 unfolding pair_of
 pair_high s = let b = bits_low s.referenced s.changed in omega arith
 
-pair_rises :
-    (e : ℕ) (p : State) (made : Option Receipt) (q : State)
-    → Tells e p made q
-    → pair_of p ≤ pair_of q
-pair_rises e p None q t = let s = ap pair_of t in omega arith
-pair_rises e p (Some r) q t =
-    let b = ap pair_of t.1 in let a = ap pair_of t.2 in let up = after_rises r in omega arith
-
 -- ---- fronts
+-- The fronts after a step by which this receipt was made, or none.
 abbrev pub fronts_by : List ℕ → Option Receipt → List ℕ
 fronts_by fronts None = fronts
 fronts_by fronts (Some r) = fronts_after fronts r
@@ -161,6 +142,8 @@ size_by fronts None = refl
 size_by fronts (Some r) = length-set fronts r.entry (pair_of (after_of r))
 
 -- ---- a turn and the view after it
+-- After the step the actor has its phase and its receipt, the fronts are those after that receipt,
+-- and the rest of what the pass knows of the table stays.
 pub record IsAfter (v w : View) (t : StepResult) : Type 0 where
   pub actor : w.actor ≡ actor_after v.actor t.phase t.made
   pub numbers : w.numbers ≡ v.numbers
@@ -192,6 +175,7 @@ there (x ∷ xs) (Rattle.std.proofs.Common.suc i) h = there xs i (omega arith)
 module _ (key : Opening) (s : TableState ℕ View) (steps : List (ℕ × Step))
     (h : ShowsSteps key steps s.words s.views) (id n : ℕ) (ns : List ℕ) (v : View)
     (at : get_elem? s.views id ≡ some v) (mine : v.numbers ≡ n ∷ ns) where
+  -- The machine after these steps.
   abbrev pub C : Machine
   C = machine_after key steps
 
@@ -229,8 +213,8 @@ module _ (key : Opening) (s : TableState ℕ View) (steps : List (ℕ × Step))
       let theirs : slice_get C.actors k ≡ Some u.actor = subst (λ l. ActsAs C l u.actor) is
       (h.shows.views j u at') in
       apart_from key C s h.shows j id n k u v ns ks other at at' mine is
-      (kept.1.one e k n u.actor v.actor theirs me (subst (HasLock e) (sym shut) on)
-      (to_lock e v.actor.phase holds))
+      (kept.1.one e k n u.actor v.actor theirs me (subst (HoldsEntry e) (sym shut) on)
+      holds)
 
   module _ (e : ℕ) (w : View) (x : Entry) (t : StepResult) (words : List ℕ)
       (z : Change C e n x v.actor t) (k : Takes key s.words words e v w x t) where
@@ -253,7 +237,7 @@ module _ (key : Opening) (s : TableState ℕ View) (steps : List (ℕ × Step))
           ∙ level_by e x.published t.entry.published v.fronts t.made z.tells e' other;
       free =
           λ e' other holds.
-          other (on_this e' (lock_is_on e' w.actor.phase (to_lock e' w.actor.phase holds)));
+          other (on_this e' (lock_is_on e' w.actor.phase holds));
       others = lifted e x t.entry t.made z.tells k.lifts;
     }
 

@@ -1,11 +1,11 @@
 use Rattle.std.proofs.Common.{◌≡◌, ◌≤◌, ◌-◌, ◌∙◌, List, ℕ, ap, sym, subst, length, drop, arith}
 use Rattle.history_check.specs.PartedText.{behind_told, behind_lines}
 use Rattle.history_check.proofs.PartedTexts.{one_behind, behind_drops}
-use Rattle.history_check.proofs.parting.lines_end.Goals as goal
+use Rattle.history_check.proofs.parting.replies_end.Goals as goal
 
 pub loop-preserved : goal.loop-preserved
 loop-preserved c =
-    c.cut_line.ensures.behind
+    c.cut_reply.ensures.behind
     ∙ ap behind_told c.loop.invariant
     ∙ sym (one_behind c.loop.counter c.args.text.now)
 

@@ -1,22 +1,22 @@
 -- Places that the caller of a call has for what it tells: words and receipts.
-use Rattle.std.specs.Prelude.{ℕ, ◌+◌, if◌then◌else◌, List, [], ◌∷◌, ◌++◌, length, take, drop, set}
-use Rattle.entry_model.specs.State.{State}
+use Rattle.std.specs.Prelude.{ℕ, ◌+◌, List, [], ◌∷◌, ◌++◌, length, take, drop, set}
+use Rattle.entry_model.specs.State.{bits_number}
 use Rattle.entry_model.specs.Reply.{words_of}
 use Rattle.entry_model.specs.declared.operation.Answer.{Answer}
 use Rattle.entry_model.specs.declared.operation.Answer.TheVariants.{Entered, Taken, Removed, Protected, Was, Words, NotFound, NoMatch, Denied, Masked, At, Worn}
 use Rattle.entry_model.specs.declared.receipt.Receipt.{Receipt}
 use Rattle.c_layout.specs.declared.receipts.PaprReceipt.{PaprReceipt}
 
--- The first places have the items, as many as there are places, and the places behind them are as
+-- The first slots have the items, as many as there are slots, and the slots behind them are as
 -- they were.
 abbrev pub filled : {X : Type 0} → List X → List X → List X
-filled places items = take (length places) items ++ drop (length items) places
+filled slots items = take (length slots) items ++ drop (length items) slots
 
--- The places after items were put into them one behind the other from a place on. What has no place
+-- The slots after items were put into them one behind the other from an index on. What has no slot
 -- is left out.
 abbrev pub placed : {X : Type 0} → List X → ℕ → List X → List X
-placed places place [] = places
-placed places place (item ∷ items) = placed (set places place item) (place + 1) items
+placed slots index [] = slots
+placed slots index (item ∷ items) = placed (set slots index item) (index + 1) items
 
 -- ---- receipts as C has them
 -- The number of an answer.
@@ -33,10 +33,6 @@ answer_number Denied = 8
 answer_number At = 9
 answer_number Worn = 10
 answer_number Masked = 11
-
--- R and C as one number: R counts 2, and C counts 1.
-abbrev pub bits_number : State → ℕ
-bits_number s = (if s.referenced then 2 else 0) + (if s.changed then 1 else 0)
 
 -- The entry, what stood in it before, with R and C in doubleword 1 as H_READ shows them, and its
 -- answer.

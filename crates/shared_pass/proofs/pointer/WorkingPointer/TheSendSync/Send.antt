@@ -1,4 +1,4 @@
--- A place may go to another thread, since what is boxed may.
+-- A pointer may go to another thread, since what is boxed may.
 use mir.Raw.{raw}
 use base.Shift.{Keyless}
 use denote.Memory.{lone}
@@ -13,12 +13,12 @@ use Rattle.std_alloc.proofs.SendSync.{quiet, lies}
 use Rattle.std_heap.proofs.Global.TheSendSync as handle
 use Rattle.shared_pass.specs.contracts.working.Working as Working
 use Rattle.shared_pass.proofs.working.Working.TheSendSync.{the_send as working}
-use Rattle.shared_pass.specs.Owned.{place_owns}
-use Rattle.shared_pass.specs.contracts.place.Place.{the_row, the_type}
+use Rattle.shared_pass.specs.Owned.{pointer_owns}
+use Rattle.shared_pass.specs.contracts.pointer.WorkingPointer.{the_row, the_type}
 
 owned :
     (alloc : Global) (p : Ptr) (held : Option Working.the_row.Denot)
-    → Keyless (place_owns alloc p held)
+    → Keyless (pointer_owns alloc p held)
 owned alloc p None = tt
 owned alloc p (Some x) =
     (lies Working.the_row working p x, heap.frees.frees alloc (raw (lone Working.the_row.mir)) p)

@@ -20,7 +20,8 @@ WEIGHTS = {
     "trace_runner": 2.0,
     "reply_text": 1.6,
     "trace_read": 1.5,
-    "lpar_set": 1.1,
+    "lpar_set": 1.2,
+    "history_check": 1.15,
     "entry_lock": 0.8,
     "papr_c": 0.7,
 }

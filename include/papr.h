@@ -225,7 +225,7 @@ struct papr_reply papr_h_bulk_remove(struct papr_entry *entries, size_t count, u
                                      size_t words_room, struct papr_receipt *receipts,
                                      size_t receipts_room);
 
-/* A call by its number, as register 3 has it: one of the seven above. `args` are registers 4 to 11; the
+/* A call by its number, as register 3 has it: one of those above. `args` are registers 4 to 11; the
  * words that the call gives are written over them, from args[0] on, and the others are unchanged. For
  * another number PAPR_H_FUNCTION, whatever the table is, and nothing changes. */
 struct papr_reply papr_hcall(struct papr_entry *entries, size_t count, uint8_t order,

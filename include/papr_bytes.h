@@ -7,7 +7,7 @@
  * Several calls may run at the same time, each in its own thread.
  *
  * The function can't check these conditions, so the caller has to ensure them: a pointer is to initialised memory of the
- * given length, and the output buffer `place` doesn't overlap another parameter's memory. With a length of 0 a pointer may
+ * given length, and the buffer `output` doesn't overlap another parameter's memory. With a length of 0 a pointer may
  * be NULL.
  */
 #ifndef PAPR_BYTES_H
@@ -48,23 +48,23 @@ struct papr_bytes_end {
  *   "image", "old" | "new"  a trace: the table at its end, in the layout of Power ISA 2.07 or 3.0
  *   "drill", SEED, LINES    no input; decimal numbers, LINES at most 100000: the summary of a generated trace
  *
- * An input of more than 2^24 bytes is refused. The output is written to `place`, which has `room` bytes, from its first byte
+ * An input of more than 2^24 bytes is refused. The output is written to `output`, which has `room` bytes, from its first byte
  * on, without a final NUL; the bytes after it are unchanged. A buffer of 24 bytes for each byte of a trace is mostly large
  * enough; if it isn't, `length` says how much is needed.
  */
 struct papr_bytes_end papr_bytes_call(
     const uint8_t *first, size_t first_length, const uint8_t *second, size_t second_length,
     const uint8_t *third, size_t third_length, const uint8_t *input, size_t input_length,
-    uint8_t *place, size_t room);
+    uint8_t *output, size_t room);
 
 /* The same with arguments that end with a NUL; an argument that is NULL is left out. */
 static inline struct papr_bytes_end papr_bytes(
     const char *first, const char *second, const char *third, const void *input, size_t input_length,
-    void *place, size_t room)
+    void *output, size_t room)
 {
     return papr_bytes_call(
         (const uint8_t *)first, first ? strlen(first) : 0, (const uint8_t *)second, second ? strlen(second) : 0,
-        (const uint8_t *)third, third ? strlen(third) : 0, (const uint8_t *)input, input_length, (uint8_t *)place, room);
+        (const uint8_t *)third, third ? strlen(third) : 0, (const uint8_t *)input, input_length, (uint8_t *)output, room);
 }
 
 #ifdef __cplusplus

@@ -47,10 +47,10 @@ def call(*arguments: str, text: Text = b"") -> tuple[Status, bytes]:
     arrays = [it for data in given for it in ((U8 * len(data)).from_buffer_copy(data), len(data))]
     room = LEAST_ROOM + ROOM_FOR_A_BYTE * len(given[-1])
     while True:
-        place = (U8 * room)()
-        ended = function("papr_bytes_call")(*arrays, place, room)
+        output = (U8 * room)()
+        ended = function("papr_bytes_call")(*arrays, output, room)
         if ended.status != Status.NO_ROOM:
-            return Status(ended.status), ctypes.string_at(place, ended.length)
+            return Status(ended.status), ctypes.string_at(output, ended.length)
         room = ended.length
 
 

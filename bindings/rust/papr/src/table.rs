@@ -271,7 +271,7 @@ impl Table {
         })
     }
 
-    /// A call by its number, with registers 4 to 11: one of the seven above.
+    /// A call by its number, with registers 4 to 11: one of those above.
     pub fn hcall(&mut self, number: u64, args: [u64; WORDS]) -> Reply {
         // SAFETY: all that is lent is ours, of the given lengths, and nothing overlaps.
         self.call_with(args, |it| unsafe {

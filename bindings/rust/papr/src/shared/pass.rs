@@ -232,7 +232,7 @@ impl Pass {
         })
     }
 
-    /// A call by its number, with registers 4 to 11: one of the seven above.
+    /// A call by its number, with registers 4 to 11: one of those above.
     pub fn hcall(&mut self, number: u64, args: [u64; WORDS]) -> Result<Reply, Busy> {
         // SAFETY: all that is lent is ours, of the given lengths, and nothing overlaps.
         self.call_with(args, |it| unsafe {

@@ -13,8 +13,9 @@ from .support import TOP, ToolTest, for_each
 HEADER = TOP / "include" / "papr.h"
 FOLDERS = [TOP / "crates" / crate / "src" for crate in ("c_layout", "papr_c")]
 SOURCES = [path for folder in FOLDERS for path in sorted(folder.glob("*.rt"))]
-# What the sources have from the crates below: return codes, and flags.
+# What the sources have from the crates below: return codes, flags, and the length of a list of grants.
 BELOW = [
+    TOP / "crates" / "frame_grants" / "src" / "grants.rt",
     TOP / "crates" / "papr_codes" / "src" / "codes.rt",
     TOP / "crates" / "papr_codes" / "src" / "flag_bits.rt",
 ]
@@ -197,11 +198,17 @@ def of_value(type_: str) -> str:
     return SCALARS[type_] if type_ in SCALARS else f"struct {NAMES[type_]}"
 
 
+def with_lengths(text: str) -> str:
+    """The sources with a number where the length of an array is a constant of theirs."""
+    lengths = dict(re.findall(r"\bconst (\w+): usize = ([0-9]+);", text))
+    return re.sub(r"; ([A-Z_]+)\]", lambda it: f"; {lengths.get(it[1], it[1])}]", text)
+
+
 class Sources:
     """What the sources declare."""
 
     def __init__(self, text: str) -> None:
-        text = without_remarks(text)
+        text = with_lengths(without_remarks(text))
         self.structs: dict[str, Struct] = {}
         for before, name, body in STRUCT.findall(text):
             if name in NAMES:

@@ -2,7 +2,7 @@ ghost use Rattle.std.specs.Prelude.{◌≡◌, ◌≤◌, ◌<◌, ℕ, length};
 ghost use Rattle.frame_grants.specs.Grants.{holds, most_grants};
 ghost use Rattle.c_layout.specs.Grants.{kind_of, grant_of, fields_at, listed, IsInOrder, AreListed};
 
-use frame_grants::{Grant, Kind};
+use frame_grants::{Grant, Kind, MOST_GRANTS};
 use page_grants::GrantedMemory;
 
 /// A range of the guest's logical addresses and the machine range behind it, in bytes.
@@ -75,7 +75,7 @@ impl PaprGrant {
 #[derive(Clone, Copy)]
 pub struct PaprGrants {
     /// In order of logical address; those from `count` on are empty.
-    pub grants: [PaprGrant; 64],
+    pub grants: [PaprGrant; MOST_GRANTS],
     /// How many there are: 0 to 64.
     pub count: u32,
 
@@ -90,7 +90,7 @@ impl PaprGrants {
         requires apart { AreListed grants.now }
         ensures { listed result.grants result.count ≡ grants.now }
     {
-        let mut list = [PaprGrant::NONE; 64];
+        let mut list = [PaprGrant::NONE; MOST_GRANTS];
         for i in 0..grants.len() {
             list[i] = PaprGrant::of(&grants[i]);
         }

@@ -1,7 +1,7 @@
 -- Each atomic step of an access keeps the rule.
 use Rattle.std.specs.Prelude.{slice_get}
 use Rattle.std.proofs.Common.{◌≡◌, ◌≢◌, ℕ, ◌+◌, ◌*◌, ◌<◌, ◌^◌, ◌&&◌, not, Bool, true, false, List, ◌∷◌, length, set, get_or, length-set, inl, inr, ⊎_elim, refl, sym, ap, ◌∙◌, subst, arith, eqb, Some, None}
-use Rattle.std.proofs.lemmas.Bool.{false≢true, and_parts, eqb-true, not-true}
+use Rattle.std.proofs.lemmas.Bool.{false≢true, or_cases, cases_Bool, false_from_ne_true}
 use mathlib.Core.Option.{some}
 use Rattle.atomic_table.specs.Table.{State as TableState}
 use Rattle.atomic_table.proofs.Lists.{exchanged}
@@ -25,22 +25,22 @@ use Rattle.lock_core.specs.Machine.{Machine, words_seen, HoldsEntry}
 use Rattle.lock_core.specs.Steps.{actor_after, fits, names_entry, result_without_receipt, result_with_receipt, new_doing, with_noted, with_loaded, marked_entry}
 use Rattle.lock_core.proofs.Moves.{Change, put_both}
 use Rattle.lock_core.proofs.Kept.{IsOn, LookedOk, IsFresh, PhaseOk, looked_same}
-use Rattle.lock_core.proofs.Noted.{not_true, noted_same}
+use Rattle.lock_core.proofs.Noted.{noted_same}
 use Rattle.entry_lock.specs.declared.rule.View.{View}
 use Rattle.entry_lock.specs.declared.rule.Opening.{Opening}
 use Rattle.entry_lock.specs.Layout.{word_of, control_place, data_place}
 use Rattle.entry_lock.specs.Views.{states_of}
 use Rattle.entry_lock.specs.Rule.{WordsShow, ShowsSteps, machine_after}
 use Rattle.entry_lock.specs.StepViews.{view_with_step, view_in_phase, view_with_receipt, view_with_count, doing_with_word}
-use Rattle.entry_lock.specs.AccessSteps.{LookTells, LookedLoadTells, AreAlike, SecondLookTells, MarkTells}
+use Rattle.entry_lock.specs.AccessSteps.{LookTells, LookedLoadTells, AreAlike, is_decided, SecondLookTells, MarkTells}
 use Rattle.entry_lock.specs.CallSteps.{leaves_state}
 use Rattle.entry_lock.proofs.Bits.{same_word}
-use Rattle.entry_lock.proofs.ViewLists.{bool_is}
 use Rattle.entry_lock.proofs.MachineMoves.{Moves, in_table_is}
 use Rattle.entry_lock.proofs.Places.{control_set, control_else, data_else, read_shows, data_found}
 use Rattle.entry_lock.proofs.SolePass.{unlocked}
-use Rattle.entry_lock.proofs.AlikeDoings.{noted_self, alike_next, alike_changes, alike_receipt, alike_still, later_receipt}
+use Rattle.entry_lock.proofs.AlikeDoings.{noted_self, alike_next, alike_changes, alike_receipt, alike_decided, later_receipt}
 use Rattle.entry_lock.proofs.PassSteps.{Takes, kept, me, entry_there, has_number, turn_shown, turn_ahead, change_of, moves_of}
+use Rattle.entry_lock.proofs.SecondLooks.{still_parts}
 use Rattle.entry_lock.proofs.StoredWords.{loaded_is}
 use Rattle.entry_lock.proofs.StepKinds as kinds
 use lib.ListN.{get_elem?}
@@ -49,15 +49,6 @@ use prog.Atomic.{either}
 loaded_noted : (second : Bool) (x : Entry) (d : Doing) → (with_loaded second x d).noted ≡ d.noted
 loaded_noted true x d = refl
 loaded_noted false x d = refl
-
--- A word that is still at the noted stamp isn't shut.
-still_parts :
-    (d : Doing) (k : Control) → is_still k d ≡ true → (k.shut ≡ false) × (k.stamp ≡ d.noted.stamp)
-unfolding is_still
-still_parts d k h =
-    let p = and_parts _ _ h in
-    let q = and_parts _ _ p.0 in
-    (not-true k.shut q.1, eqb-true k.stamp d.noted.stamp p.1)
 
 -- A receipt on a state that stays.
 left_same : (r : Receipt) (p : State) → r.before ≡ p → after_of r ≡ p → leaves_state r ≡ true
@@ -91,7 +82,7 @@ module _ (key : Opening) (s : TableState ℕ View) (steps : List (ℕ × Step))
     open_alone e x here free all =
         let ok = (kept key s steps h id n ns v at mine).1.entries e x here in
         let l = unlocked key s steps h id n ns v at mine (all_of all) e x here free in
-        not_true x.control.shut (λ q. false≢true (sym l ∙ ok.shut q))
+        false_from_ne_true x.control.shut (λ q. false≢true (sym l ∙ ok.shut q))
 
     -- ---- first looks
     pub look_open_step :
@@ -207,7 +198,7 @@ module _ (key : Opening) (s : TableState ℕ View) (steps : List (ℕ × Step))
             (λ _. (words_seen C v.actor e x.control, refl)),
           ),
         ))
-        (bool_is x.control.shut)
+        (cases_Bool x.control.shut)
 
     pub looked_load_step :
         (d : Doing) (second : Bool)
@@ -309,11 +300,26 @@ module _ (key : Opening) (s : TableState ℕ View) (steps : List (ℕ × Step))
 
       missed_if : found ≢ wanted → is_noted X.control d.noted ≡ false
       missed_if miss =
-          not_true (is_noted X.control d.noted)
+          false_from_ne_true (is_noted X.control d.noted)
           (λ q. miss (hit_if (noted_same X.control d.noted q)))
 
       unshut : X.control ≡ d.noted → X.control.shut ≡ false
       unshut same = ap (λ (k : Control). k.shut) same ∙ looked.free
+
+      -- A word by which the second look decides isn't shut, and is valid where the noted one is.
+      decided_parts :
+          is_decided X.control d ≡ true
+          → (X.control.shut ≡ false) × (X.control.valid ≡ d.noted.valid)
+      decided_parts holds =
+          ⊎_elim {C = (X.control.shut ≡ false) × (X.control.valid ≡ d.noted.valid)}
+          (λ (hit : is_noted X.control d.noted ≡ true).
+          let same = noted_same X.control d.noted hit in
+          (unshut same, ap (λ (k : Control). k.valid) same))
+          (λ (there : is_still X.control d ≡ true).
+          let p = still_parts d X.control there in
+          let fresh : IsFresh d X = record { stamp = sym p.2; free = p.1 } in
+          (p.1, sym (looked.bits fresh).valid))
+          (or_cases _ _ holds)
 
       always : length v.numbers ≡ v.passes → found ≡ wanted
       always all = hit_if (h.shows.alone id v d X at (all_of all) is here)
@@ -329,12 +335,11 @@ module _ (key : Opening) (s : TableState ℕ View) (steps : List (ℕ × Step))
       missed :
           (step name : Step)
           → step ≡ name
-          → found ≢ wanted
           → (z : Change C d.entry n X v.actor (result_without_receipt X Idle))
           → Moves C n step (put_both C d.entry X n (actor_after v.actor Idle None))
           → AfterStep step (control_place d.entry) found
           (view_with_count (view_in_phase (view_with_step v name) Idle) a.entry wanted found)
-      missed step name named miss z moves =
+      missed step name named z moves =
           let w : View = view_with_count (view_in_phase (view_with_step v name) Idle) a.entry wanted
           found in
           let t : StepResult = result_without_receipt X Idle in
@@ -438,50 +443,16 @@ module _ (key : Opening) (s : TableState ℕ View) (steps : List (ℕ × Step))
           (w : View)
           × AfterStep (Look d.entry d.op) (control_place d.entry) found w
           × SecondLookTells a v found w}
-          (λ (hit : is_noted X.control d.noted ≡ true).
-          let same = noted_same X.control d.noted hit in
-          let turn_is = kinds.again_hit (words_seen C v.actor d.entry X.control) X d e op hit in
-          let o = decided d a (alike_receipt a d al) (unshut same) step name look_named
-          (change_of key s steps h id n ns v at mine (Looked d) step X
-          (result_with_receipt X (receipt d)) live is here fit turn_is)
-          (moves_of key s steps h id n ns v at mine (Looked d) step X
-          (result_with_receipt X (receipt d)) on names live is here fit turn_is) in (
-            view_with_count (view_with_receipt (view_with_step v name) (receipt a)) a.entry wanted
-                found,
-            o.0,
-            (
-              X.control,
-              (show.control, low),
-              always,
-              (λ _. (refl, o.1)),
-              (λ miss _. absurd (miss (hit_if same))),
-              (λ miss _. absurd (miss (hit_if same))),
-            ),
-          ))
-          (λ (missed' : is_noted X.control d.noted ≡ false).
-          let differs : found ≢ wanted = λ q. false≢true (sym missed' ∙ noted_if (same_if q)) in
-          ⊎_elim
-          {C =
-          (w : View)
-          × AfterStep (Look d.entry d.op) (control_place d.entry) found w
-          × SecondLookTells a v found w}
-          (λ (there : is_still X.control d ≡ true).
-          let free : X.control.shut ≡ false = (still_parts d X.control there).0 in
-          let fresh : IsFresh d X = record {
-            stamp = sym (still_parts d X.control there).1;
-            free = free;
-          } in
-          let bits = looked.bits fresh in
-          let turn_is = kinds.again_still (words_seen C v.actor d.entry X.control) X d e op missed'
-          there in
+          (λ (holds : is_decided X.control d ≡ true).
+          let parts = decided_parts holds in
+          let t : StepResult = result_with_receipt X (receipt (with_noted d X.control)) in
+          let turn_is =
+          kinds.again_decided (words_seen C v.actor d.entry X.control) X d e op holds in
           let o = decided (with_noted d X.control) (with_noted a X.control)
-          (later_receipt a d al X.control (λ q. bits.valid ∙ q)) free step name look_named
-          (change_of key s steps h id n ns v at mine (Looked d) step X
-          (result_with_receipt X (receipt (with_noted d X.control))) live is here fit
-          turn_is)
-          (moves_of key s steps h id n ns v at mine (Looked d) step X
-          (result_with_receipt X (receipt (with_noted d X.control))) on names live is here
-          fit turn_is) in (
+          (later_receipt a d al X.control (λ q. sym parts.1 ∙ q)) parts.0 step name look_named
+          (change_of key s steps h id n ns v at mine (Looked d) step X t live is here fit turn_is)
+          (moves_of key s steps h id n ns v at mine (Looked d) step X t on names live is here fit
+          turn_is) in (
             view_with_count
                 (view_with_receipt (view_with_step v name) (receipt (with_noted a X.control)))
                 a.entry
@@ -491,37 +462,34 @@ module _ (key : Opening) (s : TableState ℕ View) (steps : List (ℕ × Step))
               X.control,
               (show.control, low),
               always,
-              (λ q. absurd (differs q)),
-              (λ _ _. (
+              (λ _. (
                 (refl, o.1),
                 record {
-                  valid = sym bits.valid ∙ ap (λ (k : Control). k.valid) al.noted;
+                  valid = parts.1 ∙ ap (λ (k : Control). k.valid) al.noted;
                   leaves = o.2;
                 },
               )),
-              (λ _ q. absurd (false≢true (sym q ∙ sym (alike_still a d al X.control) ∙ there))),
+              (λ q. absurd (false≢true (sym q ∙ sym (alike_decided a d al X.control) ∙ holds))),
             ),
           ))
-          (λ (gone : is_still X.control d ≡ false).
-          let turn_is = kinds.again_miss (words_seen C v.actor d.entry X.control) X d e op missed'
-          gone in (
+          (λ (gone : is_decided X.control d ≡ false).
+          let t : StepResult = result_without_receipt X Idle in
+          let turn_is = kinds.again_miss (words_seen C v.actor d.entry X.control) X d e op gone in (
             view_with_count (view_in_phase (view_with_step v name) Idle) a.entry wanted found,
-            missed step name look_named differs
-                (change_of key s steps h id n ns v at mine (Looked d) step X
-                (result_without_receipt X Idle) live is here fit turn_is)
-                (moves_of key s steps h id n ns v at mine (Looked d) step X
-                (result_without_receipt X Idle) on names live is here fit turn_is),
+            missed step name look_named
+                (change_of key s steps h id n ns v at mine (Looked d) step X t live is here fit
+                turn_is)
+                (moves_of key s steps h id n ns v at mine (Looked d) step X t on names live is here
+                fit turn_is),
             (
               X.control,
               (show.control, low),
               always,
-              (λ q. absurd (differs q)),
-              (λ _ q. absurd (false≢true (sym gone ∙ alike_still a d al X.control ∙ q))),
-              (λ _ _. refl),
+              (λ q. absurd (false≢true (sym gone ∙ alike_decided a d al X.control ∙ q))),
+              (λ _. refl),
             ),
           ))
-          (bool_is (is_still X.control d)))
-          (bool_is (is_noted X.control d.noted))
+          (cases_Bool (is_decided X.control d))
 
       pub mark_step :
           (new : ℕ)
@@ -603,7 +571,7 @@ module _ (key : Opening) (s : TableState ℕ View) (steps : List (ℕ × Step))
           kinds.mark_miss (words_seen C v.actor d.entry X.control) X d (missed_if miss)
           in (
             view_with_count (view_in_phase (view_with_step v Mark) Idle) a.entry wanted found,
-            missed Mark Mark refl miss
+            missed Mark Mark refl
                 (change_of key s steps h id n ns v at mine (Looked d) Mark X
                 (result_without_receipt X Idle) live is here fit turn_is)
                 (moves_of key s steps h id n ns v at mine (Looked d) Mark X

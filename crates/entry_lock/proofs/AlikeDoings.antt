@@ -1,6 +1,6 @@
 -- Two operations that are told of the same words.
 use Rattle.std.specs.Prelude.{is_some, if◌then◌else◌, unwrap_or}
-use Rattle.std.proofs.Common.{◌≡◌, ◌==◌, ◌&&◌, not, true, false, refl, ap, ◌∙◌, eq-eqb}
+use Rattle.std.proofs.Common.{◌≡◌, ◌==◌, ◌&&◌, ◌||◌, not, true, false, refl, ap, ◌∙◌, eq-eqb}
 use Rattle.entry_model.specs.Reply.{reply_of}
 use Rattle.entry_model.specs.Receipt.{receipt_of}
 use Rattle.entry_model.specs.History.{state_eq}
@@ -10,7 +10,7 @@ use Rattle.lock_core.specs.declared.doing.Doing.{Doing}
 use Rattle.lock_core.specs.Words.{state_of, without_bits, known_words, noted_state, next_state, changes, receipt, is_noted, is_still}
 use Rattle.lock_core.specs.Steps.{with_noted}
 use Rattle.lock_core.proofs.Noted.{same_words}
-use Rattle.entry_lock.specs.AccessSteps.{AreAlike}
+use Rattle.entry_lock.specs.AccessSteps.{AreAlike, is_decided}
 
 pub noted_self : (k : Control) → is_noted k k ≡ true
 unfolding is_noted
@@ -42,12 +42,15 @@ module _ (a d : Doing) (al : AreAlike a d) where
   unfolding receipt
   alike_receipt = λ i. receipt_of (al.entry i) (alike_state i) (al.op i)
 
-  pub alike_still : (k : Control) → is_still k d ≡ is_still k a
+  alike_still : (k : Control) → is_still k d ≡ is_still k a
   unfolding is_still
   alike_still k =
       λ i.
       (not (is_some (al.first i)) && not (is_some (al.second i))) && k.valid && not k.shut &&
       (k.stamp == (al.noted i).stamp)
+
+  pub alike_decided : (k : Control) → is_decided k d ≡ is_decided k a
+  alike_decided k = λ i. is_noted k (al.noted i) || alike_still k i
 
   -- By another word that is valid only where the noted word is.
   later_state :

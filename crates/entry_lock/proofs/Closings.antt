@@ -1,7 +1,7 @@
 -- What a pass with all shares closes.
 use Rattle.std.specs.Prelude.{slice_get, Contains}
 use Rattle.std.proofs.Common.{◌≡◌, ℕ, zero, suc, ◌+◌, ◌*◌, ◌<◌, ◌≤◌, true, false, List, [], ◌∷◌, ◌++◌, length, length-append, get_or, inl, inr, ⊎_elim, refl, sym, ap, ◌∙◌, subst, arith, Some}
-use Rattle.std.proofs.lemmas.Bool.{false≢true}
+use Rattle.std.proofs.lemmas.Bool.{false≢true, false_from_ne_true}
 use mathlib.Core.Logic.{dite}
 use native.Mathlib.Decide.{ℕ_discrete}
 use mathlib.Core.Option.{some, some-injective, some-ne-none}
@@ -20,7 +20,6 @@ use Rattle.lock_core.specs.Words.{state_of}
 use Rattle.lock_core.specs.Machine.{Actor, Machine, opening_machine, HoldsEntry}
 use Rattle.lock_core.specs.Runs.{run, receipts_of}
 use Rattle.lock_core.specs.Laws.{published_state, sighting_by, HasSeen}
-use Rattle.lock_core.proofs.Noted.{not_true}
 use Rattle.lock_core.proofs.Opening.{legal_history, seen_line}
 use Rattle.entry_lock.specs.declared.rule.View.{View}
 use Rattle.entry_lock.specs.declared.rule.Opening.{Opening}
@@ -107,7 +106,7 @@ module _ (key : Opening) (s : TableState ℕ View) (steps : List (ℕ × Step))
       unshut = let ok = (kept key s steps h id n ns v at mine).1.entries e X here in
           let l = unlocked key s steps h id n ns v at mine all e X here
           (λ q. subst (HoldsEntry e) idle q) in
-          not_true X.control.shut (λ q. false≢true (sym l ∙ ok.shut q))
+          false_from_ne_true X.control.shut (λ q. false≢true (sym l ∙ ok.shut q))
 
       published_is : entry_state s.words e ≡ X.published
       published_is =

@@ -2,7 +2,7 @@
 use Rattle.std.specs.Prelude.{slice_get}
 use Rattle.std.proofs.Common.{◌≡◌, ℕ, ◌+◌, ◌*◌, ◌<◌, ◌==◌, ◌&&◌, ◌||◌, not, Bool, true, false, List, ◌∷◌, length, set, get_or, length-set, inl, inr, ⊎_elim, refl, sym, ap, ◌∙◌, subst, arith, eq-eqb, Some, None}
 use Rattle.std.specs.Int.Bits.{bit_or, bit_and}
-use Rattle.std.proofs.lemmas.Bool.{false≢true}
+use Rattle.std.proofs.lemmas.Bool.{false≢true, cases_Bool, false_from_ne_true}
 use mathlib.Core.Option.{some}
 use Rattle.atomic_table.specs.Table.{State as TableState}
 use Rattle.entry_model.specs.State.{State}
@@ -21,7 +21,7 @@ use Rattle.lock_core.specs.Words.{next_state, is_read, changes, receipt, settled
 use Rattle.lock_core.specs.Machine.{Machine, entry_at, HoldsEntry}
 use Rattle.lock_core.specs.Steps.{actor_after, result_without_receipt, result_with_receipt, new_doing, with_noted, with_loaded, with_stored, locked_entry, shut_entry, settled_entry}
 use Rattle.lock_core.proofs.Kept.{IsOn, HeldOk, ShutOk, PhaseOk, shut_same}
-use Rattle.lock_core.proofs.Noted.{raised, not_true, noted_stamp}
+use Rattle.lock_core.proofs.Noted.{raised, noted_stamp}
 use Rattle.entry_lock.specs.declared.rule.View.{View}
 use Rattle.entry_lock.specs.declared.rule.Opening.{Opening}
 use Rattle.entry_lock.specs.Layout.{word_of, Means, control_place, data_place, doubleword}
@@ -30,7 +30,6 @@ use Rattle.entry_lock.specs.Rule.{AreStored, ShowsSteps, machine_after}
 use Rattle.entry_lock.specs.StepViews.{view_with_step, view_in_phase, view_with_receipt, view_with_store, view_with_count, doing_with_word}
 use Rattle.entry_lock.specs.HolderSteps.{LockTells, LoadTells, ShutTells, StoreTells, SettleTells, ReleaseTells}
 use Rattle.entry_lock.proofs.Bits.{lock_word, unlock_word, shut_word}
-use Rattle.entry_lock.proofs.ViewLists.{bool_is}
 use Rattle.entry_lock.proofs.MachineMoves.{in_table_is, entry_is}
 use Rattle.entry_lock.proofs.Places.{control_set, control_else, data_set, data_else, read_shows, data_found, data_before}
 use Rattle.entry_lock.proofs.SolePass.{unlocked}
@@ -136,7 +135,7 @@ module _ (key : Opening) (s : TableState ℕ View) (steps : List (ℕ × Step))
         found found in
         let t : StepResult = result_without_receipt (locked_entry x true)
         (Held (new_doing e op x.control None)) in
-        let unshut : x.control.shut ≡ false = not_true x.control.shut
+        let unshut : x.control.shut ≡ false = false_from_ne_true x.control.shut
         (λ q. false≢true (sym free ∙ ok.shut q)) in
         let z = change_of key s steps h id n ns v at mine Idle (Lock e op) x t live idle f.1
         (kinds.fits_lock x e op other) (kinds.lock_free _ x e op free) in
@@ -172,7 +171,7 @@ module _ (key : Opening) (s : TableState ℕ View) (steps : List (ℕ × Step))
             (λ _. refl),
           ),
         ))
-        (bool_is x.control.locked)
+        (cases_Bool x.control.locked)
 
     pub load_step :
         (d : Doing) (second : Bool)
@@ -352,7 +351,7 @@ module _ (key : Opening) (s : TableState ℕ View) (steps : List (ℕ × Step))
         ap
         (λ q.
         not q || ((x.dword0 == (next_state d).dword0) && (x.dword1 == (next_state d).dword1)))
-        none') (bool_is (next_state d).valid)
+        none') (cases_Bool (next_state d).valid)
 
     -- A pass whose marks say so has stored the words.
     pub settle_may :

@@ -6,6 +6,7 @@ mod MachineMoves
 mod PassSteps
 mod StepKinds
 mod Places
+mod SecondLooks
 mod SolePass
 mod StoredWords
 mod HolderOperations

@@ -1,17 +1,18 @@
 -- What an access by a line finds.
 use Rattle.std.specs.Prelude.{if◌then◌else◌}
 use Rattle.std.proofs.Common.{◌≡◌, true, sym, ap, ◌∙◌, subst}
-use Rattle.std.proofs.lemmas.Bool.{and_parts, eqb-true}
 use Rattle.entry_model.specs.declared.line.Line.{Line}
 use Rattle.entry_model.specs.declared.operation.Op.{Op}
 use Rattle.entry_model.specs.declared.receipt.Receipt.{Receipt}
 use Rattle.entry_model.specs.CachedLines.{IsCurrent}
 use Rattle.lock_core.specs.declared.control.Control.{Control}
 use Rattle.lock_core.specs.declared.doing.Doing.{Doing}
-use Rattle.lock_core.specs.Words.{without_bits, noted_state, receipt, is_still}
+use Rattle.lock_core.specs.Words.{without_bits, noted_state, receipt}
 use Rattle.lock_core.specs.Steps.{with_noted}
 use Rattle.lock_core.proofs.Steps.{receipt_before}
+use Rattle.entry_lock.specs.AccessSteps.{is_decided}
 use Rattle.entry_lock.specs.LineSteps.{doing_by_line}
+use Rattle.entry_lock.proofs.SecondLooks.{decided_word}
 
 current_by :
     (line : Line) (op : Op) (k : Control)
@@ -41,24 +42,17 @@ current_receipt line op d r begun_at valid stamp clear is =
     (sym (ap (λ (z : Receipt). z.before) is ∙ receipt_before d ∙ ap noted_state begun_at))
     (current_by line op d.noted valid stamp clear)
 
--- A word that is still at the noted stamp is valid there.
-pub still_word :
-    (d : Doing) (k : Control) → is_still k d ≡ true → (k.valid ≡ true) × (k.stamp ≡ d.noted.stamp)
-unfolding is_still
-still_word d k h =
-    let p = and_parts _ _ h in
-    let q = and_parts _ _ p.0 in
-    let r = and_parts _ _ q.0 in
-    (r.1, eqb-true k.stamp d.noted.stamp p.1)
-
-pub later_receipt_current :
+-- So has one by another word by which its second look decided.
+pub decided_receipt :
     (line : Line) (op : Op) (d : Doing) (k : Control) (r : Receipt)
     → d ≡ doing_by_line line op d.noted
+    → d.noted.valid ≡ true
     → d.noted.stamp ≡ line.stamp
     → without_bits line.dword1 ≡ line.dword1
-    → is_still k d ≡ true
+    → is_decided k d ≡ true
     → r ≡ receipt (with_noted d k)
     → IsCurrent line r.before
-later_receipt_current line op d k r begun_at stamp clear still is = let s = still_word d k still in
+decided_receipt line op d k r begun_at valid stamp clear holds is =
+    let s = decided_word d k valid holds in
     current_receipt line op (with_noted d k) r (ap (λ (z : Doing). with_noted z k) begun_at) s.0
     (s.1 ∙ stamp) clear is

@@ -1,7 +1,7 @@
 -- Fronts that rise, words that have left a stamp, and lines that were seen.
 use Rattle.std.specs.Prelude.{slice_get, is_some, option_map}
 use Rattle.std.proofs.Common.{◌≡◌, ◌≢◌, ◌⊎◌, ℕ, zero, suc, ◌+◌, ◌*◌, ◌<◌, ◌≤◌, ◌==◌, ◌&&◌, ◌||◌, not, Bool, true, false, List, [], ◌∷◌, length, inl, inr, ⊎_elim, refl, sym, ap, ◌∙◌, arith, eq-eqb, find, Option, Some, None}
-use Rattle.std.proofs.lemmas.Bool.{false≢true, eqb-true}
+use Rattle.std.proofs.lemmas.Bool.{false≢true, eqb-true, cases_Bool}
 use Rattle.std.specs.Option.{option_or}
 use Rattle.entry_model.specs.State.{State}
 use Rattle.entry_model.specs.declared.line.Line.{Line}
@@ -19,7 +19,6 @@ use Rattle.lock_core.proofs.Lists.{some_same, none_some}
 use Rattle.entry_lock.specs.Rule.{FrontFits}
 use Rattle.entry_lock.specs.StepViews.{raised_fronts}
 use Rattle.entry_lock.specs.LineSteps.{is_gone_from}
-use Rattle.entry_lock.proofs.ViewLists.{bool_is}
 use Rattle.entry_lock.proofs.PassSteps.{pair_low, pair_high}
 
 -- ---- fronts that rise
@@ -132,7 +131,7 @@ gone_front e x line free holds left = let low = pair_low x.published in
     (λ i.
     open' i || (not (valid i) || not (eq-eqb x.control.stamp line.stamp stamp i)))
     ∙ left)))
-    (bool_is x.control.shut)) holds
+    (cases_Bool x.control.shut)) holds
 
 -- ---- lines that were seen
 pub find_has :
@@ -141,11 +140,11 @@ pub find_has :
     → p l ≡ true
     → is_some (find p ls) ≡ true
 find_has p [] i l at is = absurd (none_some l at)
-find_has p (x ∷ xs) zero l at is = by (bool_is (p x)) where
+find_has p (x ∷ xs) zero l at is = by (cases_Bool (p x)) where
   by : (p x ≡ true) ⊎ (p x ≡ false) → is_some (find p (x ∷ xs)) ≡ true
   by (inl here) = rw here refl
   by (inr none') = absurd (false≢true (sym none' ∙ ap p (some_same x l at) ∙ is))
-find_has p (x ∷ xs) (suc i) l at is = by (bool_is (p x)) (find_has p xs i l at is) where
+find_has p (x ∷ xs) (suc i) l at is = by (cases_Bool (p x)) (find_has p xs i l at is) where
   by : (p x ≡ true) ⊎ (p x ≡ false) → is_some (find p xs) ≡ true → is_some (find p (x ∷ xs)) ≡ true
   by (inl here) rest = rw here refl
   by (inr none') rest = rw none' rest

@@ -1,7 +1,7 @@
 -- Each atomic step by a line that was seen keeps the rule.
 use Rattle.std.specs.Prelude.{slice_get, is_some, if◌then◌else◌, option_map, Contains, unwrap_or}
 use Rattle.std.proofs.Common.{◌≡◌, ℕ, ◌+◌, ◌*◌, ◌<◌, ◌==◌, ◌&&◌, ◌||◌, not, Bool, true, false, List, ◌∷◌, length, set, get_or, ⊎_elim, refl, sym, ap, ◌∙◌, subst, arith, eqb, eq-eqb, ne_eqb, find, Option, Some, None}
-use Rattle.std.proofs.lemmas.Bool.{false≢true}
+use Rattle.std.proofs.lemmas.Bool.{false≢true, or_parts, cases_Bool}
 use Rattle.std.proofs.lemmas.Option.{slice_get-get_or}
 use Rattle.std.specs.Option.{option_or}
 use mathlib.Core.Logic.{dite}
@@ -22,7 +22,7 @@ use Rattle.lock_core.specs.declared.phase.Phase.{Phase}
 use Rattle.lock_core.specs.declared.phase.Phase.TheVariants.{Idle, HeldShut, Looked}
 use Rattle.lock_core.specs.declared.sighting.Sighting.{Sighting}
 use Rattle.lock_core.specs.declared.step.Step.{Step}
-use Rattle.lock_core.specs.Words.{without_bits, is_read, changes, next_state, is_still}
+use Rattle.lock_core.specs.Words.{without_bits, is_read, changes, next_state}
 use Rattle.lock_core.specs.Machine.{Actor, Machine, is_at, words_in, words_at, words_seen_in, words_seen, opening_at, HoldsEntry}
 use Rattle.lock_core.specs.Steps.{new_doing}
 use Rattle.lock_core.specs.Laws.{sighting_by}
@@ -35,11 +35,11 @@ use Rattle.entry_lock.specs.Layout.{word_of, Means, control_place}
 use Rattle.entry_lock.specs.Views.{states_of}
 use Rattle.entry_lock.specs.Rule.{FrontFits, Shows, ShowsSteps, ShowsRun, machine_after}
 use Rattle.entry_lock.specs.StepViews.{view_with_step, view_in_phase, view_with_count, raised_fronts, view_past}
-use Rattle.entry_lock.specs.AccessSteps.{AreAlike}
+use Rattle.entry_lock.specs.AccessSteps.{AreAlike, is_decided}
 use Rattle.entry_lock.specs.SeenLines.{IsSeen}
 use Rattle.entry_lock.specs.LineSteps.{is_gone_from, doing_by_line, LineLookTells, LineSecondLookTells, LineMarkTells}
 use Rattle.entry_lock.proofs.Bits.{same_word}
-use Rattle.entry_lock.proofs.ViewLists.{set_view, bool_is}
+use Rattle.entry_lock.proofs.ViewLists.{set_view}
 use Rattle.entry_lock.proofs.Places.{word_read}
 use Rattle.entry_lock.proofs.Frame.{Fronts, other_phase, Frame, shows_put}
 use Rattle.entry_lock.proofs.PassSteps.{kept, me, entry_there, has_number}
@@ -297,7 +297,7 @@ module _ (key : Opening) (s : TableState ℕ View) (steps : List (ℕ × Step))
             (λ _. (d, alike, refl, clear)),
           ),
         ))
-        (bool_is (is_gone_from x.control line.stamp))
+        (cases_Bool (is_gone_from x.control line.stamp))
       where
         or_right : (b : Bool) → (b || true) ≡ true
         or_right true = refl
@@ -372,36 +372,22 @@ module _ (key : Opening) (s : TableState ℕ View) (steps : List (ℕ × Step))
           let shown : ShowsRun key (Next (control_place d.entry) found l.0) =
           ((n, Look d.entry d.op) ∷ steps, l.1) in
           let t = l.2 in
-          dite
-          {C =
-          (w : View)
-          × ShowsRun key (Next (control_place d.entry) found w)
-          × LineSecondLookTells line a v found w} (ℕ_discrete found wanted)
-          (λ hit.
-          (l.0, shown, (t.0, t.1, t.3, (λ miss. absurd (miss hit)), λ miss. absurd (miss hit))))
-          (λ miss.
           ⊎_elim
           {C =
           (w : View)
           × ShowsRun key (Next (control_place d.entry) found w)
           × LineSecondLookTells line a v found w}
-          (λ (there : is_still t.0 a ≡ true). (
+          (λ (holds : is_decided t.0 a ≡ true). (
             l.0,
             shown,
-            (
-              t.0,
-              t.1,
-              (λ hit. absurd (miss hit)),
-              t.4,
-              λ _ gone. absurd (false≢true (sym gone ∙ there)),
-            ),
+            (t.0, t.1, t.3, λ gone. absurd (false≢true (sym gone ∙ holds))),
           ))
-          (λ (gone : is_still t.0 a ≡ false).
+          (λ (gone : is_decided t.0 a ≡ false).
           let left : is_gone_from t.0 line.stamp ≡ true = gone_still a t.0 line.stamp first second
-          stamp gone in
+          stamp (or_parts _ _ gone).1 in
           let r =
           raise_after line t.0 (Look a.entry a.op) d.entry a.entry wanted l.0 inside_line seen
-          (al.entry ∙ on) shown (t.5 miss gone) t.1 left in (
+          (al.entry ∙ on) shown (t.4 gone) t.1 left in (
             view_with_count
                 (view_past (view_in_phase (view_with_step v (Look a.entry a.op)) Idle) line) a.entry
                 wanted found,
@@ -409,12 +395,11 @@ module _ (key : Opening) (s : TableState ℕ View) (steps : List (ℕ × Step))
             (
               t.0,
               t.1,
-              (λ hit. absurd (miss hit)),
-              (λ _ there. absurd (false≢true (sym gone ∙ there))),
-              λ _ _. ((refl, r.1), left),
+              (λ holds. absurd (false≢true (sym gone ∙ holds))),
+              λ _. ((refl, r.1), left),
             ),
           ))
-          (bool_is (is_still t.0 a)))
+          (cases_Bool (is_decided t.0 a))
 
       pub known_mark_step :
           (new : ℕ)
@@ -490,4 +475,4 @@ module _ (key : Opening) (s : TableState ℕ View) (steps : List (ℕ × Step))
               (λ m _. t.4 m),
             ),
           ))
-          (bool_is (is_gone_from t.0 line.stamp)))
+          (cases_Bool (is_gone_from t.0 line.stamp)))

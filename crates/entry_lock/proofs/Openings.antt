@@ -1,7 +1,7 @@
 -- The rule holds at the opening.
 use Rattle.std.specs.Prelude.{slice_get, if◌then◌else◌, All}
 use Rattle.std.proofs.Common.{◌≡◌, ◌≢◌, ℕ, zero, suc, ◌+◌, ◌*◌, ◌<◌, ◌≤◌, ◌==◌, true, false, List, [], ◌∷◌, length, replicate, set, get_or, inl, ⊎_elim, refl, sym, ap, ◌∙◌, subst, arith, ne_eqb, length-set, Some}
-use Rattle.std.proofs.lemmas.Bool.{false≢true}
+use Rattle.std.proofs.lemmas.Bool.{false≢true, cases_Bool}
 use mathlib.Core.Logic.{dite}
 use native.Mathlib.Decide.{ℕ_discrete}
 use mathlib.Core.Option.{some, some-injective, some-ne-none}
@@ -19,7 +19,7 @@ use Rattle.entry_lock.specs.declared.rule.Opening.{Opening}
 use Rattle.entry_lock.specs.Layout.{word_of, entry_words}
 use Rattle.entry_lock.specs.Views.{occurrences, states_of, numbers_from, first_view}
 use Rattle.entry_lock.specs.Rule.{Shows, ShowsSteps, machine_after, ActsAs, IsHead}
-use Rattle.entry_lock.proofs.ViewLists.{one, times_cons, bool_is}
+use Rattle.entry_lock.proofs.ViewLists.{one, times_cons}
 use Rattle.entry_lock.proofs.PassSteps.{there}
 use lib.ListN.{length-replicate}
 use lib.ListN.{get_elem?}
@@ -87,7 +87,7 @@ other_one k n h = ap (λ b. (let m : ℕ = if b then 1 else 0 in m)) (ne_eqb n k
 one_at_most : (k n : ℕ) → one k n ≤ 1
 one_at_most k n =
     ⊎_elim {C = one k n ≤ 1} (λ (e : (n == k) ≡ true). rw e (omega arith))
-    (λ (e : (n == k) ≡ false). rw e (omega arith)) (bool_is (n == k))
+    (λ (e : (n == k) ≡ false). rw e (omega arith)) (cases_Bool (n == k))
 
 by_eq : {F : Type 0} (k a : ℕ) → (k ≡ a → F) → (k ≢ a → F) → F
 by_eq {F} k a p q = dite {C = F} (ℕ_discrete k a) p q

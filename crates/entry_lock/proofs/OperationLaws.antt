@@ -1,7 +1,7 @@
 -- By which step of the machine the table goes on, at each atomic operation.
 use Rattle.std.specs.Prelude.{if◌then◌else◌}
 use Rattle.std.proofs.Common.{◌≡◌, ℕ, ◌<◌, ◌==◌, ◌&&◌, Bool, true, false, List, [], ◌∷◌, length, set, get_or, ◌⊎◌, inl, inr, ⊎_elim, refl, sym, ap, ◌∙◌, subst, arith}
-use Rattle.std.proofs.lemmas.Bool.{false≢true, and_parts, ltb-true, eqb-true, not-true}
+use Rattle.std.proofs.lemmas.Bool.{false≢true, and_parts, ltb-true, eqb-true, not-true, cases_Bool}
 use mathlib.Core.Logic.{dite}
 use native.Mathlib.Decide.{ℕ_discrete}
 use Rattle.atomic_table.specs.Table.{State as TableState}
@@ -18,7 +18,7 @@ use Rattle.lock_core.specs.declared.phase.Phase.{Phase}
 use Rattle.lock_core.specs.declared.phase.Phase.TheVariants.{Idle, Held, HeldShut, Looked}
 use Rattle.lock_core.specs.declared.step.Step.{Step}
 use Rattle.lock_core.specs.declared.step.Step.TheVariants.{Lock, Look, LoadData, Shut, StoreData, Settle, Release, Mark}
-use Rattle.lock_core.specs.Words.{is_still, same_access, want_eq, masks_eq}
+use Rattle.lock_core.specs.Words.{same_access, want_eq, masks_eq}
 use Rattle.lock_core.specs.Machine.{Actor, Machine, actor_at, entry_at, in_table}
 use Rattle.lock_core.specs.Steps.{entry_of, fits, names_entry}
 use Rattle.entry_lock.specs.declared.rule.View.{View}
@@ -28,13 +28,12 @@ use Rattle.entry_lock.specs.Views.{states_of}
 use Rattle.entry_lock.specs.Rule.{ShowsSteps, machine_after}
 use Rattle.entry_lock.specs.StepViews.{view_with_step}
 use Rattle.entry_lock.specs.HolderSteps.{LockTells}
-use Rattle.entry_lock.specs.AccessSteps.{AreAlike, LookTells, SecondLookTells, MarkTells}
+use Rattle.entry_lock.specs.AccessSteps.{AreAlike, LookTells, is_decided, SecondLookTells, MarkTells}
 use Rattle.entry_lock.specs.LineSteps.{is_gone_from, LineLookTells, LineSecondLookTells, LineMarkTells}
 use Rattle.entry_lock.specs.CallSteps.{Took}
 use Rattle.entry_lock.specs.SingleSteps.{OperationsAreSingleSteps}
 use Rattle.entry_lock.specs.Operations.{marked_word, operation_of, words_after}
 use Rattle.entry_lock.specs.Laws.{ShowsPass, TablesOpenOnTheirStates, EachOperationIsAStep, LooksThatFindGoneAreNoSteps, SplitsAreSteps, JoinsAreSteps}
-use Rattle.entry_lock.proofs.ViewLists.{bool_is}
 use Rattle.entry_lock.proofs.MachineMoves.{may_is, phase_is, actor_is}
 use Rattle.entry_lock.proofs.PassSteps.{kept, me}
 use Rattle.entry_lock.proofs.StoredWords.{stored_numbers, stored_taken}
@@ -61,7 +60,7 @@ lock_by op e v found w t =
     ⊎_elim {C = IsBy v w (Lock e op)}
     (λ (q : t.0.locked ≡ true). is_by v w _ (Lock e op) (t.3 q) (refl, refl))
     (λ (q : t.0.locked ≡ false). is_by v w _ (Lock e op) (t.4 q) (refl, refl))
-    (bool_is t.0.locked)
+    (cases_Bool t.0.locked)
 
 look_by :
     (op : Op) (e : ℕ) (v : View) (found : ℕ) (w : View)
@@ -71,21 +70,17 @@ look_by op e v found w t =
     ⊎_elim {C = IsBy v w (Look e op)}
     (λ (q : t.0.shut ≡ true). is_by v w _ (Look e op) (t.3 q) (refl, refl))
     (λ (q : t.0.shut ≡ false). is_by v w _ (Look e op) (t.4 q).1 (refl, refl))
-    (bool_is t.0.shut)
+    (cases_Bool t.0.shut)
 
 second_by :
     (d : Doing) (v : View) (found : ℕ) (w : View)
     → SecondLookTells d v found w
     → IsBy v w (Look d.entry d.op)
 second_by d v found w t =
-    dite {C = IsBy v w (Look d.entry d.op)} (ℕ_discrete found (word_of d.noted))
-    (λ hit. is_by v w _ (Look d.entry d.op) (t.3 hit).0 (refl, refl))
-    (λ miss.
     ⊎_elim {C = IsBy v w (Look d.entry d.op)}
-    (λ (q : is_still t.0 d ≡ true).
-    is_by v w _ (Look d.entry d.op) (t.4 miss q).0.0 (refl, refl))
-    (λ (q : is_still t.0 d ≡ false). is_by v w _ (Look d.entry d.op) (t.5 miss q) (refl, refl))
-    (bool_is (is_still t.0 d)))
+    (λ (q : is_decided t.0 d ≡ true). is_by v w _ (Look d.entry d.op) (t.3 q).0.0 (refl, refl))
+    (λ (q : is_decided t.0 d ≡ false). is_by v w _ (Look d.entry d.op) (t.4 q) (refl, refl))
+    (cases_Bool (is_decided t.0 d))
 
 mark_by : (d : Doing) (v : View) (found : ℕ) (w : View) → MarkTells d v found w → IsBy v w Mark
 mark_by d v found w t =
@@ -301,20 +296,17 @@ line_look_took :
 line_look_took line op v w found t = ⊎_elim {C = Took [] v w ⊎ Took (Look line.entry op ∷ []) v w}
     (λ (left : is_gone_from t.0 line.stamp ≡ true). inl (ap (λ (z : View). z.taken) (t.2 left).0))
     (λ (stay : is_gone_from t.0 line.stamp ≡ false).
-    inr (ap (λ (z : View). z.taken) (t.3 stay).2)) (bool_is (is_gone_from t.0 line.stamp))
+    inr (ap (λ (z : View). z.taken) (t.3 stay).2)) (cases_Bool (is_gone_from t.0 line.stamp))
 
 line_again_took :
     (line : Line) (d : Doing) (v w : View) (found : ℕ)
     → LineSecondLookTells line d v found w
     → Took (Look d.entry d.op ∷ []) v w
 line_again_took line d v w found t =
-    dite {C = Took (Look d.entry d.op ∷ []) v w} (ℕ_discrete found (word_of d.noted))
-    (λ hit. ap (λ (z : View). z.taken) (t.2 hit).0)
-    (λ miss.
     ⊎_elim {C = Took (Look d.entry d.op ∷ []) v w}
-    (λ (q : is_still t.0 d ≡ true). ap (λ (z : View). z.taken) (t.3 miss q).0.0)
-    (λ (q : is_still t.0 d ≡ false). ap (λ (z : View). z.taken) (t.4 miss q).0.0)
-    (bool_is (is_still t.0 d)))
+    (λ (q : is_decided t.0 d ≡ true). ap (λ (z : View). z.taken) (t.2 q).0.0)
+    (λ (q : is_decided t.0 d ≡ false). ap (λ (z : View). z.taken) (t.3 q).0.0)
+    (cases_Bool (is_decided t.0 d))
 
 line_mark_took :
     (line : Line) (d : Doing) (v w : View) (found : ℕ)
@@ -327,7 +319,7 @@ line_mark_took line d v w found t =
     ⊎_elim {C = Took (Mark ∷ []) v w}
     (λ (q : is_gone_from t.0 line.stamp ≡ true). ap (λ (z : View). z.taken) (t.4 miss q).0)
     (λ (q : is_gone_from t.0 line.stamp ≡ false). ap (λ (z : View). z.taken) (t.5 miss q))
-    (bool_is (is_gone_from t.0 line.stamp)))
+    (cases_Bool (is_gone_from t.0 line.stamp)))
 
 pub single_steps : OperationsAreSingleSteps
 single_steps = (

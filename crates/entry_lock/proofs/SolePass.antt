@@ -1,6 +1,7 @@
 -- What a pass with all shares knows.
 use Rattle.std.specs.Prelude.{slice_get}
 use Rattle.std.proofs.Common.{◌≡◌, ◌≢◌, ℕ, zero, suc, true, false, List, [], ◌∷◌, ◌++◌, length, refl, sym, ap, ◌∙◌, subst, arith, Some, append-nil}
+use Rattle.std.proofs.lemmas.Bool.{false_from_ne_true}
 use mathlib.Core.Logic.{dite}
 use native.Mathlib.Decide.{ℕ_discrete}
 use mathlib.Core.Option.{some}
@@ -10,7 +11,6 @@ use Rattle.lock_core.specs.declared.step.Step.{Step}
 use Rattle.lock_core.specs.Machine.{Actor, Machine, nobody, HoldsEntry}
 use Rattle.lock_core.specs.Runs.{receipts_of}
 use Rattle.lock_core.proofs.Lists.{some_same, none_some, same_at}
-use Rattle.lock_core.proofs.Noted.{not_true}
 use Rattle.entry_lock.specs.declared.rule.View.{View}
 use Rattle.entry_lock.specs.declared.rule.Opening.{Opening}
 use Rattle.entry_lock.specs.Rule.{IsHead, ShowsSteps, machine_after}
@@ -68,7 +68,7 @@ module _ (key : Opening) (s : TableState ℕ View) (steps : List (ℕ × Step))
   others_none : (i : ℕ) (b : Actor) → i ≢ n → slice_get C.actors i ≡ Some b → b ≡ nobody
   others_none i b other is =
       (kept key s steps h id n ns v at mine).1.quiet i b is
-      (not_true b.live (λ live. other (sole i b is live)))
+      (false_from_ne_true b.live (λ live. other (sole i b is live)))
 
   pub made_all : receipts_of C.actors ≡ v.actor.receipts
   made_all =
@@ -80,7 +80,7 @@ module _ (key : Opening) (s : TableState ℕ View) (steps : List (ℕ × Step))
       → slice_get C.entries e ≡ Some x
       → ¬ HoldsEntry e v.actor.phase
       → x.control.locked ≡ false
-  unlocked e x here free = not_true x.control.locked (λ l.
+  unlocked e x here free = false_from_ne_true x.control.locked (λ l.
       let k = (kept key s steps h id n ns v at mine).1.held e x here l in
       dite {C = ⊥} (ℕ_discrete k.0 n)
       (λ q.

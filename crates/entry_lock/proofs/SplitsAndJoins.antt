@@ -1,7 +1,7 @@
 -- Splits and joins keep the rule.
 use Rattle.std.specs.Prelude.{slice_get, if◌then◌else◌}
 use Rattle.std.proofs.Common.{◌≡◌, ◌≢◌, ℕ, suc, ◌+◌, ◌*◌, ◌<◌, ◌≤◌, ◌==◌, ◌&&◌, not, Bool, true, false, List, [], ◌∷◌, ◌++◌, length, set, inl, inr, ⊎_elim, refl, sym, ap, ◌∙◌, subst, arith, eq-eqb, ne_eqb, length-append, Some}
-use Rattle.std.proofs.lemmas.Bool.{false≢true, lt-ltb}
+use Rattle.std.proofs.lemmas.Bool.{false≢true, lt-ltb, false_from_ne_true}
 use Rattle.std.proofs.lemmas.Option.{slice_get_within}
 use mathlib.Core.Logic.{dite}
 use native.Mathlib.Decide.{ℕ_discrete}
@@ -21,7 +21,6 @@ use Rattle.lock_core.specs.Machine.{Actor, Machine, nobody, newcomer, HoldsEntry
 use Rattle.lock_core.specs.Steps.{may_act, names_entry, fits_phase, is_idle, joined_actor, is_allowed, after_step}
 use Rattle.lock_core.specs.Runs.{run}
 use Rattle.lock_core.proofs.Lists.{set_found, set_else, some_same}
-use Rattle.lock_core.proofs.Noted.{not_true}
 use Rattle.lock_core.proofs.Telling.{moved_if, stepped_split, stepped_join}
 use Rattle.entry_lock.specs.declared.rule.View.{View}
 use Rattle.entry_lock.specs.declared.rule.Opening.{Opening}
@@ -201,7 +200,7 @@ module _ (key : Opening) (s : TableState ℕ View) (steps : List (ℕ × Step))
         let e = times_cons m m ms in
         let o = one_same m in
         omega arith) in
-        let dead : r.0.live ≡ false = not_true r.0.live (λ l.
+        let dead : r.0.live ≡ false = false_from_ne_true r.0.live (λ l.
         let o = h.shows.owned m r.0 r.1 l in
         dite {C = ⊥} (ℕ_discrete o.0 id)
         (λ e.

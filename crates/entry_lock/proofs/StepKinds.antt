@@ -1,7 +1,7 @@
 -- Each kind of step: when it is allowed, and the turn that it takes.
 use Rattle.std.specs.Prelude.{if◌then◌else◌}
-use Rattle.std.proofs.Common.{◌≡◌, ℕ, ◌&&◌, not, Bool, true, false, refl, ap, ◌∙◌, eq-eqb, Option, None}
-use Rattle.std.proofs.lemmas.Bool.{false≢true}
+use Rattle.std.proofs.Common.{◌≡◌, ℕ, ◌&&◌, ◌||◌, not, Bool, true, false, ⊎_elim, refl, sym, ap, ◌∙◌, eq-eqb, Option, None}
+use Rattle.std.proofs.lemmas.Bool.{false≢true, or_parts, cases_Bool}
 use Rattle.storage_prot.specs.declared.want.Want.{Want}
 use Rattle.storage_prot.specs.declared.want.Want.TheVariants.{Load, Store, Fetch}
 use Rattle.entry_model.specs.declared.operation.Op.{Op}
@@ -15,7 +15,9 @@ use Rattle.lock_core.specs.declared.step.Step.TheVariants.{Lock, Look, LoadData,
 use Rattle.lock_core.specs.Words.{next_state, is_read, changes, receipt, is_noted, is_still, is_stored, same_access, want_eq}
 use Rattle.lock_core.specs.Machine.{Machine, in_table}
 use Rattle.lock_core.specs.Steps.{fits, step_result, names_entry, second_look, result_without_receipt, result_with_receipt, new_doing, with_noted, with_loaded, with_stored, locked_entry, shut_entry, settled_entry, marked_entry}
+use Rattle.lock_core.proofs.Noted.{noted_same}
 use Rattle.entry_lock.specs.Laws.{IsOnEntry}
+use Rattle.entry_lock.specs.AccessSteps.{is_decided}
 
 -- ---- steps on an entry
 pub lock_on : (e : ℕ) (op : Op) → IsOnEntry (Lock e op)
@@ -242,52 +244,49 @@ pub looked_load_turn :
 unfolding step_result
 looked_load_turn seen x d second = refl
 
-pub again_hit :
+pub again_decided :
     (seen : Option (ℕ × ℕ)) (x : Entry) (d : Doing) (e : ℕ) (op : Op)
-    → is_noted x.control d.noted ≡ true
-    → step_result seen x (Looked d) (Look e op) ≡ result_with_receipt x (receipt d)
-unfolding step_result second_look
-again_hit seen x d e op h =
-    ap
-    (λ b.
-    if b then result_with_receipt x (receipt d) else
-    (if is_still x.control d then result_with_receipt x (receipt (with_noted d x.control))
-    else result_without_receipt x Idle)) h
-
-pub again_still :
-    (seen : Option (ℕ × ℕ)) (x : Entry) (d : Doing) (e : ℕ) (op : Op)
-    → is_noted x.control d.noted ≡ false
-    → is_still x.control d ≡ true
+    → is_decided x.control d ≡ true
     → step_result seen x (Looked d) (Look e op)
     ≡ result_with_receipt x (receipt (with_noted d x.control))
 unfolding step_result second_look
-again_still seen x d e op h still =
+again_decided seen x d e op h =
+    ⊎_elim {C = second_look x d ≡ result_with_receipt x (receipt (with_noted d x.control))}
+    (λ (hit : is_noted x.control d.noted ≡ true).
     ap
     (λ b.
     if b then result_with_receipt x (receipt d) else
     (if is_still x.control d then result_with_receipt x (receipt (with_noted d x.control))
-    else result_without_receipt x Idle)) h
+    else result_without_receipt x Idle)) hit
+    ∙ ap (λ k. result_with_receipt x (receipt (with_noted d k)))
+    (sym (noted_same x.control d.noted hit)))
+    (λ (miss : is_noted x.control d.noted ≡ false).
+    ap
+    (λ b.
+    if b then result_with_receipt x (receipt d) else
+    (if is_still x.control d then result_with_receipt x (receipt (with_noted d x.control))
+    else result_without_receipt x Idle)) miss
     ∙ ap
     (λ b.
     if b then result_with_receipt x (receipt (with_noted d x.control)) else
-    result_without_receipt x Idle) still
+    result_without_receipt x Idle) (sym (ap (λ b. b || is_still x.control d) miss) ∙ h))
+    (cases_Bool (is_noted x.control d.noted))
 
 pub again_miss :
     (seen : Option (ℕ × ℕ)) (x : Entry) (d : Doing) (e : ℕ) (op : Op)
-    → is_noted x.control d.noted ≡ false
-    → is_still x.control d ≡ false
+    → is_decided x.control d ≡ false
     → step_result seen x (Looked d) (Look e op) ≡ result_without_receipt x Idle
 unfolding step_result second_look
-again_miss seen x d e op h still =
+again_miss seen x d e op h = let p = or_parts _ _ h in
     ap
     (λ b.
     if b then result_with_receipt x (receipt d) else
     (if is_still x.control d then result_with_receipt x (receipt (with_noted d x.control))
-    else result_without_receipt x Idle)) h
+    else result_without_receipt x Idle)) p.0
     ∙ ap
     (λ b.
     if b then result_with_receipt x (receipt (with_noted d x.control)) else
-    result_without_receipt x Idle) still
+    result_without_receipt x Idle) p.1
 
 pub mark_hit :
     (seen : Option (ℕ × ℕ)) (x : Entry) (d : Doing)

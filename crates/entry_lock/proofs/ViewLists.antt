@@ -1,5 +1,6 @@
 -- Lists of views, and sums over them.
-use Rattle.std.proofs.Common.{◌≡◌, ◌≢◌, ◌⊎◌, ℕ, zero, suc, ◌+◌, ◌≤◌, ◌==◌, if◌then◌else◌, Bool, true, false, List, [], ◌∷◌, ◌++◌, length, set, inl, inr, ⊎_elim, refl, sym, ap, ◌∙◌, arith, eq-eqb}
+use Rattle.std.proofs.Common.{◌≡◌, ◌≢◌, ◌⊎◌, ℕ, zero, suc, ◌+◌, ◌≤◌, ◌==◌, if◌then◌else◌, Bool, true, false, List, [], ◌∷◌, ◌++◌, length, set, ⊎_elim, refl, sym, ap, ◌∙◌, arith, eq-eqb}
+use Rattle.std.proofs.lemmas.Bool.{cases_Bool}
 use mathlib.Core.Option.{some, some-injective, some-ne-none}
 use Rattle.entry_lock.specs.declared.rule.View.{View}
 use Rattle.entry_lock.specs.Views.{occurrences, total}
@@ -16,10 +17,6 @@ module _ {A : Type 0} where
   pub same_view :
       (l : List A) (i : ℕ) (a b : A) → get_elem? l i ≡ some a → get_elem? l i ≡ some b → a ≡ b
   same_view l i a b p q = some-injective a b (sym p ∙ q)
-
-pub bool_is : (b : Bool) → (b ≡ true) ⊎ (b ≡ false)
-bool_is true = inl refl
-bool_is false = inr refl
 
 -- ---- totals
 pub total_one :
@@ -72,7 +69,7 @@ pub times_cons : (k n : ℕ) (ns : List ℕ) → occurrences k (n ∷ ns) ≡ on
 times_cons k n ns =
     ⊎_elim {C = occurrences k (n ∷ ns) ≡ one k n + occurrences k ns}
     (λ (e : (n == k) ≡ true). rw e (omega arith)) (λ (e : (n == k) ≡ false). rw e (omega arith))
-    (bool_is (n == k))
+    (cases_Bool (n == k))
 
 pub one_same : (k : ℕ) → one k k ≡ 1
 one_same k = ap (λ (b : Bool). (let n : ℕ = if b then 1 else 0 in n)) (eq-eqb k k refl)

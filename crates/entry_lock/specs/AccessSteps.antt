@@ -1,6 +1,6 @@
 -- What each step of an access tells its pass: the view v before, the word found, the view w after.
 -- Each is one step of the machine.
-use Rattle.std.specs.Prelude.{◌≡◌, ◌≢◌, ℕ, Bool, true, false, length, Option, unwrap_or}
+use Rattle.std.specs.Prelude.{◌≡◌, ◌≢◌, ℕ, ◌||◌, Bool, true, false, length, Option, unwrap_or}
 use Rattle.entry_model.specs.declared.operation.Op.{Op}
 use Rattle.entry_model.specs.Fronts.{IsAhead}
 use Rattle.lock_core.specs.declared.control.Control.{Control}
@@ -8,7 +8,7 @@ use Rattle.lock_core.specs.declared.doing.Doing.{Doing}
 use Rattle.lock_core.specs.declared.phase.Phase.TheVariants.{Idle, Looked}
 use Rattle.lock_core.specs.declared.step.Step.{Step}
 use Rattle.lock_core.specs.declared.step.Step.TheVariants.{Look, LoadData, Mark}
-use Rattle.lock_core.specs.Words.{without_bits, known_words, is_read, receipt, is_still}
+use Rattle.lock_core.specs.Words.{without_bits, known_words, is_read, receipt, is_noted, is_still}
 use Rattle.lock_core.specs.Steps.{new_doing, with_noted}
 use Rattle.entry_lock.specs.declared.rule.View.{View}
 use Rattle.entry_lock.specs.Layout.{word_of, Means}
@@ -73,16 +73,23 @@ pub record LeavesAlike (d : Doing) (noted : Control) : Type 0 where
   pub valid : noted.valid ≡ d.noted.valid
   pub leaves : leaves_state (receipt (with_noted d noted)) ≡ true
 
--- The second look, of an access that raises no bit. It finds the word noted, and the receipt is
--- made. Or the data words were seen, and the word found is at their stamp, and the receipt has its
--- R and C. Else there is none. A pass with all shares finds the word noted.
+-- By this word a second look decides: it is the word noted, or the data words were seen and it is
+-- at their stamp.
+abbrev pub is_decided : Control → Doing → Bool
+is_decided found d = is_noted found d.noted || is_still found d
+
+-- The second look decides, and the receipt has the R and C found.
+abbrev pub DecidesByFound : Doing → Control → View → ℕ → View → Type 0
+DecidesByFound d noted v found w =
+    Decides (Look d.entry d.op) d (with_noted d noted) v found w × LeavesAlike d noted
+
+-- The second look, of an access that raises no bit. By the word found it decides, or there is no
+-- receipt. A pass with all shares finds the word noted.
 abbrev pub SecondLookTells : Doing → View → ℕ → View → Type 0
 SecondLookTells d v found w = (noted : Control) × Means found noted
     × (length v.numbers ≡ v.passes → found ≡ word_of d.noted)
-    × (found ≡ word_of d.noted → Decides (Look d.entry d.op) d d v found w)
-    × (found ≢ word_of d.noted → is_still noted d ≡ true
-    → Decides (Look d.entry d.op) d (with_noted d noted) v found w × LeavesAlike d noted)
-    × (found ≢ word_of d.noted → is_still noted d ≡ false → Misses (Look d.entry d.op) d v found w)
+    × (is_decided noted d ≡ true → DecidesByFound d noted v found w)
+    × (is_decided noted d ≡ false → Misses (Look d.entry d.op) d v found w)
 
 -- The mark, of an access that raises a bit. It finds the word noted, and the receipt is made; or it
 -- finds another word, changes nothing, and there is none.

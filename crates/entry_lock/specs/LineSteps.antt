@@ -8,12 +8,12 @@ use Rattle.lock_core.specs.declared.control.Control.{Control}
 use Rattle.lock_core.specs.declared.doing.Doing.{Doing}
 use Rattle.lock_core.specs.declared.phase.Phase.TheVariants.{Idle, Looked}
 use Rattle.lock_core.specs.declared.step.Step.TheVariants.{Look, Mark}
-use Rattle.lock_core.specs.Words.{without_bits, is_still}
-use Rattle.lock_core.specs.Steps.{new_doing, with_noted}
+use Rattle.lock_core.specs.Words.{without_bits}
+use Rattle.lock_core.specs.Steps.{new_doing}
 use Rattle.entry_lock.specs.declared.rule.View.{View}
 use Rattle.entry_lock.specs.Layout.{word_of, Means}
 use Rattle.entry_lock.specs.StepViews.{view_with_step, view_in_phase, view_with_count, view_past}
-use Rattle.entry_lock.specs.AccessSteps.{AreAlike, Decides, Misses, LeavesAlike}
+use Rattle.entry_lock.specs.AccessSteps.{AreAlike, Decides, DecidesByFound, Misses, is_decided}
 
 -- The entry is gone from the stamp: its word is shut, isn't valid, or has another stamp.
 abbrev pub is_gone_from : Control → ℕ → Bool
@@ -43,10 +43,8 @@ LineLookTells cached op v found w = (noted : Control) × Means found noted
 -- The second look by a line: where there is no receipt the line is gone.
 abbrev pub LineSecondLookTells : Line → Doing → View → ℕ → View → Type 0
 LineSecondLookTells cached d v found w = (noted : Control) × Means found noted
-    × (found ≡ word_of d.noted → Decides (Look d.entry d.op) d d v found w)
-    × (found ≢ word_of d.noted → is_still noted d ≡ true
-    → Decides (Look d.entry d.op) d (with_noted d noted) v found w × LeavesAlike d noted)
-    × (found ≢ word_of d.noted → is_still noted d ≡ false
+    × (is_decided noted d ≡ true → DecidesByFound d noted v found w)
+    × (is_decided noted d ≡ false
     → (let idle : View = view_in_phase (view_with_step v (Look d.entry d.op)) Idle in
     GoesPast cached idle d.entry (word_of d.noted) found w)
     × (is_gone_from noted cached.stamp ≡ true))

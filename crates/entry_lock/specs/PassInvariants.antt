@@ -5,6 +5,7 @@ use Rattle.atomic_table.specs.Table.{Me}
 use Rattle.atomic_table.specs.Seated.{TableId}
 use Rattle.entry_model.specs.State.{State}
 use Rattle.lock_core.specs.declared.phase.Phase.TheVariants.{Idle}
+use Rattle.lock_core.specs.Machine.{most_actors}
 use Rattle.entry_lock.specs.declared.rule.View.{View}
 use Rattle.entry_lock.specs.declared.rule.Opening.{Opening}
 use Rattle.entry_lock.specs.Views.{states_of}
@@ -34,9 +35,9 @@ pub record IsSized (table : TableId) (key : Opening) (order : ℕ) : Type 0 wher
   pub size : length (states_of key) ≡ entry_count order
   pub order_fits : IsTableOrder order
 
--- A table may have so many passes, and so many shares in all.
+-- A table may have so many passes, and so many shares in all: each is an actor of the machine.
 abbrev pub most_passes : ℕ
-most_passes = 64
+most_passes = most_actors
 
 -- The pass has so many of these shares.
 pub record HasShares (v : View) (shares : ℕ) : Type 0 where

@@ -18,10 +18,10 @@ ghost use Rattle.entry_lock.specs.Progress.{LookedAtEntry, IsSameDoing};
 use crate::access_steps::{load_looked, look, look_again, mark};
 use crate::busy::Busy;
 use crate::control_word::{control_of, word_from};
-use crate::outcome::{Outcome, outcome_of};
+use crate::outcome::{Outcome, decides, outcome_of};
 use crate::rule::{PassSeat, Words};
 use entry_model::{EntryState, Op, Receipt};
-use lock_core::{Control, Doing, is_still};
+use lock_core::{Control, Doing};
 use std::marker::Brand;
 
 /// The noted control word with the R and C of the state after.
@@ -103,7 +103,7 @@ fn decide(
     table: &Words,
     seat: &mut PassSeat,
     doing: &Doing,
-    outcome: Outcome,
+    mut outcome: Outcome,
 ) -> Result<Receipt, Busy>
     requires table { IsAt table.now.table_id seat.old.table_id table.now.key seat.old.me }
     requires entry { doing.now.entry < length (states_of table.now.key) }
@@ -129,17 +129,12 @@ fn decide(
     ensures steps { Took (Look doing.now.entry doing.now.op ∷ []) seat.old.me.0 seat.new.me.0 }
 {
     let found = look_again::<Brand>(table, seat, doing);
-    let looked = word_from(&doing.noted);
-    if found == looked {
+    if decides(doing, &mut outcome, found) {
         return Ok(outcome.receipt);
-    }
-    let control = control_of(found);
-    if is_still(&control, doing) {
-        return Ok(outcome_of(&doing.with_noted(control)).receipt);
     }
     Err(Busy {
         entry: doing.entry,
-        looked,
+        looked: word_from(&doing.noted),
         found,
     })
 }

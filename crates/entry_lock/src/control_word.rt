@@ -1,6 +1,6 @@
 //! Control words as numbers: lock, shut, valid, R and C from bit 63 down, and the stamp in the low
 //! 32.
-ghost use Rattle.std.specs.Prelude.{◌≡◌, if◌then◌else◌};
+ghost use Rattle.std.specs.Prelude.{◌≡◌, ◌<◌, ◌^◌, if◌then◌else◌};
 ghost use Rattle.lock_core.specs.declared.control.Control.{Control};
 ghost use Rattle.entry_lock.specs.Layout.{word_of, Means, control_of_word};
 
@@ -51,7 +51,8 @@ fn weight_if(one: bool, weight: u64) -> u64
 /// The number of a control word.
 #[inline(always)]
 pub fn word_from(control: &Control) -> u64
-    ensures { result ≡ word_of control.now }
+    ensures value { result ≡ word_of control.now }
+    ensures low { control.now.stamp < 2 ^ 32 }
 {
     let bits = weight_if(control.referenced, REFERENCED)
         + (weight_if(control.changed, CHANGED) + control.stamp as u64);

@@ -19,10 +19,10 @@ use crate::accesses::marked_control;
 use crate::busy::Busy;
 use crate::control_word::{control_of, word_from};
 use crate::line_steps::{look_line, look_line_again, mark_line};
-use crate::outcome::{Outcome, outcome_of};
+use crate::outcome::{Outcome, decides, outcome_of};
 use crate::rule::{PassSeat, Words};
 use entry_model::{Line, Op, Receipt};
-use lock_core::{Control, Doing, is_still};
+use lock_core::{Control, Doing};
 use std::marker::Brand;
 
 /// Whether the entry is gone from a stamp, or its holder is about to change it.
@@ -77,7 +77,7 @@ fn decide(
     known: &Line,
     op: Op,
     doing: &Doing,
-    outcome: Outcome,
+    mut outcome: Outcome,
 ) -> Option<Receipt>
     requires table { IsAt table.now.table_id seat.old.table_id table.now.key seat.old.me }
     requires entry { known.now.entry < length (states_of table.now.key) }
@@ -100,13 +100,8 @@ fn decide(
 {
     let _ = op;
     let found = look_line_again::<Brand>(table, seat, known, doing);
-    if found == word_from(&doing.noted) {
+    if decides(doing, &mut outcome, found) {
         return Some(outcome.receipt);
-    }
-    // A lock, or a bit that another access raised, leaves the entry at the line's stamp.
-    let control = control_of(found);
-    if is_still(&control, doing) {
-        return Some(outcome_of(&doing.with_noted(control)).receipt);
     }
     None
 }

@@ -1,14 +1,18 @@
 //! What an operation does, by what is known of its entry. It is computed once for a try, and again
 //! only where R or C were raised in between.
-ghost use Rattle.std.specs.Prelude.{◌≡◌, true, not};
+ghost use Rattle.std.specs.Prelude.{◌≡◌, ◌≢◌, true, false, not};
 ghost use Rattle.entry_model.specs.History.{state_eq};
 ghost use Rattle.entry_model.specs.Reply.{reply_of};
+ghost use Rattle.lock_core.specs.declared.control.Control.{Control as ControlOf};
 ghost use Rattle.lock_core.specs.Steps.{with_noted};
 ghost use Rattle.lock_core.specs.Words.{noted_state as noted_of, changes as changes_of, next_state as next_of, receipt as receipt_of};
+ghost use Rattle.entry_lock.specs.Layout.{word_of, Means};
+ghost use Rattle.entry_lock.specs.AccessSteps.{is_decided};
 ghost use Rattle.entry_lock.specs.LeftStates.{is_left as is_left_by};
 
+use crate::control_word::{control_of, word_from};
 use entry_model::{Answer, EntryState, Op, Receipt, reply};
-use lock_core::{Control, Doing, noted_state, same_state};
+use lock_core::{Control, Doing, is_still, noted_state, same_state};
 
 /// What an operation does.
 #[derive(Drop)]
@@ -126,4 +130,27 @@ pub fn outcome_by(doing: &Doing, known: Outcome, found: Control) -> Outcome
         return known;
     }
     outcome_again(&doing.with_noted(found))
+}
+
+/// Whether a second look that found this word decides the operation: it is the word noted, or
+/// another at its stamp, whose R and C the outcome's receipt then has.
+#[inline(always)]
+pub fn decides(doing: &Doing, outcome: &mut Outcome, found: u64) -> bool
+    requires outcome { outcome.old.receipt ≡ receipt_of doing.now }
+    ensures decided { result ≡ true → (k : ControlOf) → Means found k
+        → (is_decided k doing.now ≡ true)
+        × (outcome.new.receipt ≡ receipt_of (with_noted doing.now k)) }
+    ensures missed { result ≡ false → (found ≢ word_of doing.now.noted)
+        × ((k : ControlOf) → Means found k → is_decided k doing.now ≡ false) }
+{
+    if found == word_from(&doing.noted) {
+        return true;
+    }
+    // A lock, or a bit that another access raised, leaves the entry at its stamp.
+    let control = control_of(found);
+    if is_still(&control, doing) {
+        outcome.receipt = outcome_of(&doing.with_noted(control)).receipt;
+        return true;
+    }
+    false
 }

@@ -1,6 +1,7 @@
 -- What an operation leaves of an entry: a higher stamp, or the same entry with further bits.
-use Rattle.std.specs.Prelude.{◌≡◌, ◌+◌, ◌<◌, ◌⊎◌, Bool, true, false, if◌then◌else◌, ◌==◌, ◌||◌}
+use Rattle.std.specs.Prelude.{◌≡◌, ◌+◌, ◌<◌, ◌⊎◌, Bool, true, false, if◌then◌else◌, ◌==◌}
 use Rattle.std.proofs.Common.{arith, inl, inr, refl, ◌∙◌}
+use Rattle.std.proofs.lemmas.Bool.{or_left}
 use Rattle.entry_model.specs.State.{State, empty_state, OnlyRaisesBits, Follows}
 use Rattle.entry_model.specs.declared.operation.Answer.{Answer}
 use Rattle.entry_model.specs.declared.operation.Answer.TheVariants.{Entered, Taken, Removed, Protected, Was, NotFound, NoMatch, Denied, Masked, At, Worn}
@@ -111,10 +112,6 @@ where_follows found s answer next =
     either_follows found s (change_to s answer next) (NotFound, s) (changed_follows s answer next)
     (stays s)
 
-or_stays : (b w : Bool) → b ≡ true → (b || w) ≡ true
-or_stays true w e = refl
-or_stays false w e = cc
-
 pub touched_further : (s : State) (want : Want) → OnlyRaisesBits s (touched_state s want)
 touched_further s want =
     record {
@@ -123,7 +120,7 @@ touched_further s want =
       dword1 = refl;
       stamp = refl;
       referenced = λ e. refl;
-      changed = or_stays s.changed (is_store want);
+      changed = or_left s.changed (is_store want);
     }
 
 pub reply_follows : (s : State) (o : Op) → Follows s (reply_of s o).1

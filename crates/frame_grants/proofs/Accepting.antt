@@ -7,6 +7,7 @@ use Rattle.std.proofs.lemmas.Bool.Decides.{nat_tests}
 use Rattle.std.proofs.lemmas.List.Elements.{All-cons, All-append, All-filter, filter_passes}
 use Rattle.std.proofs.lemmas.List.Sums.{length-filter}
 use Rattle.std.proofs.Math.Seq.{take-append_seam, drop-append_seam}
+use Rattle.std.proofs.lemmas.Bool.{not-true}
 use Rattle.frame_grants.specs.declared.grant.Grant.{Grant}
 use Rattle.frame_grants.specs.declared.error.GrantError.{GrantError}
 use Rattle.frame_grants.specs.Grants.{GrantedMemory, IsPlaced, AreApart, IsSound, is_empty, is_aligned, ends_past, meets_logical, meets_machine, overlaps, meets_pool, starts_below, refusals, add_refusal, with_grant, most_grants}
@@ -120,10 +121,6 @@ place_is granted grant apart =
     ∙ insert_seam (lower_part granted grant) (higher_part granted grant) grant
 
 -- ---- the list stays apart
-not_false : (b : Bool) → not b ≡ true → b ≡ false
-not_false true fails = absurd (cc)
-not_false false passes = refl
-
 starts_lower :
     (grant other : Grant) → starts_below grant other ≡ true → other.logical < grant.logical
 starts_lower grant other below = grind (arith, nat_tests, below)
@@ -161,7 +158,7 @@ stays_apart granted grant apart ok =
           (λ k d inside. starts_lower grant (get_or low k d) (filter_passes below gs k d inside))
           (λ k d inside.
           above grant (get_or high k d) here (high_placed k d inside) (clear_high k d inside)
-          (not_false _ (filter_passes others gs k d inside)));
+          (not-true _ (filter_passes others gs k d inside)));
       logical_apart =
           AllPairs-between Logical grant low high
           (subst (AllPairs Logical) (sym join) apart.logical_apart)

@@ -10,7 +10,7 @@ use Rattle.frame_grants.specs.Grants.{GrantedMemory, AreApart, holds, machine_at
 use Rattle.basics.proofs.Lists.{find-Some, find-None}
 use Rattle.frame_grants.proofs.Holding.{found_of, machine_range-off_pool}
 
-part_held :
+pub part_held :
     (logical length part : ℕ) (grant : Grant)
     → holds logical length grant ≡ true
     → logical ≤ part

@@ -1,7 +1,7 @@
 -- The fronts of a good run and of its text.
 use Rattle.std.proofs.Common.{◌≡◌, ℕ, zero, suc, ◌≤◌, ◌<◌, List, [], ◌∷◌, ◌++◌, true, false, ap, sym, ◌∙◌, refl, subst, ◌⊎◌, inl, inr, append_assoc, arith}
 use Rattle.std.specs.Prelude.{if◌then◌else◌, nat_le}
-use Rattle.std.proofs.lemmas.Bool.{cases_Bool, leb-true, leb-false}
+use Rattle.std.proofs.lemmas.Bool.{cases_Bool, cases_lt}
 use Rattle.trace_line.specs.declared.line.TraceLine.{TraceLine}
 use Rattle.trace_line.specs.Lines.{is_quiet}
 use Rattle.trace_read.specs.Trace.{AcceptedTrace}
@@ -199,18 +199,12 @@ good_verdict t rs g k low high = at (cases_Bool (nat_le k (section_count t))) wh
       rw e (fronts_stand t (text_of t rs) k low (rs, [], g, sym (append_none (text_of t rs))))
   at (inr e) = rw e (rs, g, refl)
 
-either_order : (n m : ℕ) → (n < m) ⊎ (m ≤ n)
-either_order n m = at (cases_Bool (nat_le m n)) where
-  at : (nat_le m n ≡ true) ⊎ (nat_le m n ≡ false) → (n < m) ⊎ (m ≤ n)
-  at (inl e) = inr (leb-true m n e)
-  at (inr e) = inl (leb-false m n e)
-
 one_bad :
     (t : AcceptedTrace) (text : List ℕ) (n m : ℕ)
     → IsVerdict t text (verdicts.Bad n)
     → IsVerdict t text (verdicts.Bad m)
     → n ≡ m
-one_bad t text n m h k = at (either_order n m) (either_order m n) where
+one_bad t text n m h k = at (cases_lt n m) (cases_lt m n) where
   at : (n < m) ⊎ (m ≤ n) → (m < n) ⊎ (n ≤ m) → n ≡ m
   at (inl less) e = absurd (h.3 (k.2 n h.0 less))
   at (inr e) (inl less) = absurd (k.3 (h.2 m k.0 less))

@@ -17,7 +17,7 @@ use Rattle.receipt_text.proofs.Bytes.{lacks_append, lacks_back, cut_at}
 use Rattle.receipt_text.proofs.ReadBack.{receipts_lack}
 use Rattle.run_model.specs.AllStores.{AllStores}
 use Rattle.run_model.specs.StoreNumbers.{store_at, store_of}
-use Rattle.run_model.specs.Stores.{is_on}
+use Rattle.run_model.specs.Stores.{is_on, lines_on}
 use Rattle.run_model.proofs.StoreNumbers.{store_inside, on_own}
 use Rattle.history_check.specs.FoundSection.{lines_text}
 use Rattle.history_check.specs.FoundStores.{windows_of}
@@ -235,10 +235,6 @@ tells_text (t ∷ ts) text h =
     (append_assoc (reply_text t.line t.reply) (lines_text ts)
     (behind_lines (length ts) (behind_told text)))
 
--- the part of those that pass a test
-abbrev passed : (Act → Bool) → List RepliedLine → List RepliedLine
-passed f ts = filter (λ (t : RepliedLine). f t.line.act) ts
-
 -- The lines without their replies.
 abbrev pub lines_in : List RepliedLine → List TraceLine
 lines_in ts = map (λ (t : RepliedLine). t.line) ts
@@ -252,8 +248,8 @@ tells_part f (t ∷ ts) text h =
     at (cases_Bool (f t.line.act)) (tells_part f ts (behind_told text) h.1) where
       at :
           (f t.line.act ≡ true) ⊎ (f t.line.act ≡ false)
-          → part_text f (lines_in ts) (behind_told text) ≡ lines_text (passed f ts)
-          → part_text f (lines_in (t ∷ ts)) text ≡ lines_text (passed f (t ∷ ts))
+          → part_text f (lines_in ts) (behind_told text) ≡ lines_text (lines_on f ts)
+          → part_text f (lines_in (t ∷ ts)) text ≡ lines_text (lines_on f (t ∷ ts))
       at (inl q) rest = rw q (λ i. h.0 i ++ rest i)
       at (inr q) rest = rw q rest
 
@@ -314,14 +310,14 @@ part_tells f (t ∷ ts) text rest h e =
       at :
           (f t.line.act ≡ true) ⊎ (f t.line.act ≡ false)
           →
-          (part_text f (lines_in ts) (behind_told text) ≡ lines_text (passed f ts) ++ rest
+          (part_text f (lines_in ts) (behind_told text) ≡ lines_text (lines_on f ts) ++ rest
           → Tell f ts (behind_told text))
           → Tell f (t ∷ ts) text
       at (inl q) go =
           let mine = rw q at e in
           let k = head_tells t f (lines_in ts) text
-          (lines_text (passed f ts) ++ rest) h.0
-          (mine ∙ append_assoc (reply_text t.line t.reply) (lines_text (passed f ts)) rest) in
+          (lines_text (lines_on f ts) ++ rest) h.0
+          (mine ∙ append_assoc (reply_text t.line t.reply) (lines_text (lines_on f ts)) rest) in
           ((λ on. k.0), go k.1)
       at (inr q) go =
           ((λ on. absurd (let no : false ≡ true = sym q ∙ on in false≢true no)), go (rw q at e))

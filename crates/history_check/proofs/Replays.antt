@@ -3,7 +3,7 @@ use Rattle.std.proofs.Common.{length, arith, ◌≡◌, ℕ, ◌+◌, List, [], 
 use Rattle.std.specs.Prelude.{◌||◌, ◌==◌, drop, nat_lt, ◌-◌, ◌^◌, slice_index}
 use Rattle.std.specs.List.{AllByRecursion}
 use Rattle.std.specs.Option.{option_map_or}
-use Rattle.std.proofs.lemmas.Bool.{cases_Bool, cond_both}
+use Rattle.std.proofs.lemmas.Bool.{cases_Bool, cond_both, or_from}
 use Rattle.papr_codes.specs.declared.calls.Hcall.{Hcall}
 use Rattle.papr_codes.specs.declared.calls.Hcall.TheVariants as calls
 use Rattle.papr_codes.specs.declared.codes.Rc.TheVariants as rc
@@ -63,9 +63,6 @@ end_trial goes x y cs xs ys P e h k on off = at (cases_Bool (goes x.answer)) whe
       goes y.answer ≡ false =
       sym (ap (λ (r : Receipt). goes r.answer) e) ∙ q in off (rw q at h) (rw q' at k)
 
-neither : (a b : Bool) → a ≡ false → b ≡ false → (a || b) ≡ false
-neither a b h k = rw (h, k) refl
-
 -- xs was made on the states before of ys; then it is ys.
 pub replayed_trial :
     (goes : Answer → Bool) (cs : List Call) (a b : ReplayState) (xs ys : List Receipt)
@@ -92,7 +89,7 @@ replayed_trial goes (c ∷ cs) a b (x ∷ xs) (y ∷ ys) stops fresh given g h k
     let tail : xs ≡ ys = end_trial goes x y cs xs ys (xs ≡ ys) head h.1 k.1
     (λ q h' k'.
     replayed_trial goes cs (after_receipt a x) b xs ys stops.1
-    (neither a.decided (is_decided x.answer) fresh
+    (or_from a.decided (is_decided x.answer) fresh
     (ap is_decided told ∙ stops.0 x.before (ap goes (sym told) ∙ q))) next g.2 h' k')
     (λ e f. e ∙ sym f) in
     λ i. head i ∷ tail i
@@ -125,7 +122,7 @@ replayed_before goes (c ∷ cs) a b (r ∷ rs) (s ∷ ss) stops fresh given g h 
     let rest : before_each rs ≡ ss = at (cases_Bool (goes r.answer))
     (λ q.
     replayed_before goes cs (after_receipt a r) b rs ss stops.1
-    (neither a.decided (is_decided r.answer) fresh
+    (or_from a.decided (is_decided r.answer) fresh
     (ap is_decided told ∙ stops.0 r.before (ap goes (sym told) ∙ q))) next g.2
     (rw q at h.1) (omega (arith, size))) in
     λ i. before i ∷ rest i where

@@ -1,6 +1,6 @@
 -- The page of an entry: at most one page is, and `page_at` finds it.
 use Rattle.std.specs.Prelude.{◌↔◌, IfSome, if◌then◌else◌, IsSomeAnd, ◌==◌, ◌&&◌}
-use Rattle.std.proofs.lemmas.Bool.{eqb-true, eq-eqb}
+use Rattle.std.proofs.lemmas.Bool.{eqb-true, eq-eqb, and_parts}
 use Rattle.std.specs.Int.Bits.{and_high}
 use Rattle.std.specs.Option.{option_and_then}
 use Rattle.page_sizes.specs.Sizes.{size_of}
@@ -8,7 +8,7 @@ use Rattle.page_sizes.specs.declared.size.PageSize.{PageSize}
 use Rattle.hpte_fields.specs.Fields.{is_valid, is_secondary, is_one_tb, segment_code, tag_field}
 use Rattle.std.proofs.Common.{Option, ◌≡◌, ℕ, ◌+◌, ◌*◌, ◌/◌, ◌%◌, ◌^◌, ◌<◌, ◌≤◌, Bool, true, false, arith, ap, sym, ◌∙◌, refl, Some, None, subst}
 use Rattle.power_addr.specs.Pages.{VirtualPage, IsPage, virtual_address, tag_of, segment_code_of}
-use Rattle.power_addr.proofs.Ranges.{both_true, virtual_address-lt, page_of_address-some}
+use Rattle.power_addr.proofs.Ranges.{virtual_address-lt, page_of_address-some}
 use Rattle.power_addr.proofs.Tags.{same_from_tag, tag_of-parts, segment_code-le}
 use Rattle.hpt_hash.specs.Hash.{hash_of, group_of}
 use Rattle.hpt_hash.specs.Entries.{IsPageOf, SuitsPage, low_hash, number_field, rebuilt_page, confirmed_page, page_of_size, page_at}
@@ -39,7 +39,7 @@ same_page p q order secondary is is' low tags shifts groups =
 
 -- ---- the fields of a doubleword 0
 -- Its tag is B and the address bits.
-tag_field-parts : (dword0 : ℕ) → tag_field dword0 ≡ dword0 / 2 ^ 7 % 2 ^ 57 * 2 ^ 7
+pub tag_field-parts : (dword0 : ℕ) → tag_field dword0 ≡ dword0 / 2 ^ 7 % 2 ^ 57 * 2 ^ 7
 tag_field-parts dword0 = and_high dword0 57 7
 
 -- The address bits of a page's tag.
@@ -157,7 +157,7 @@ made-page_at order index dword0 dword1 p e =
     ((tag_of q == tag_field dword0) && (group_of q order (is_secondary dword0) == index / 8))
     (Some q) p rebuilt.2 in
     let same : q ≡ p = let some : Some q ≡ Some p = confirmed.1 in cc in
-    let tests = both_true (tag_of q == tag_field dword0)
+    let tests = and_parts (tag_of q == tag_field dword0)
     (group_of q order (is_secondary dword0) == index / 8) confirmed.0 in
     let made : IsMade order index dword0 dword1 q = record {
       valid = valid.0;

@@ -6,6 +6,7 @@ use Rattle.std.proofs.lemmas.Nat.Bits.{and_high, same_from_bits, bit_at_and, bit
 use Rattle.std.proofs.lemmas.Bool.{eqb-true, eqb-false}
 use Rattle.power_addr.specs.Pages.{VirtualPage, tag_of, segment_code_of, virtual_address}
 use Rattle.hpte_fields.specs.Fields.{tag_field, is_secondary, is_valid}
+use Rattle.hpt_hash.proofs.PageLemmas.{tag_field-parts}
 use Rattle.entry_model.specs.Reply.{compared_bits}
 use Rattle.hpt_walk.specs.Walk.{h_bit}
 
@@ -14,9 +15,6 @@ and_or : (n a b : ℕ) → bit_and n (bit_or a b) ≡ bit_or (bit_and n a) (bit_
 and_or n a b = same_from_bits _ _ (λ i. simp (bit_at_or, bit_at_and) (omega arith))
 
 -- ---- the parts of a doubleword 0
-pub tag_field-parts : (d : ℕ) → tag_field d ≡ d / 2 ^ 7 % 2 ^ 57 * 2 ^ 7
-tag_field-parts d = and_high d 57 7
-
 -- The tag, and below it H and V.
 pub compared-parts : (d : ℕ) → compared_bits d ≡ d / 2 ^ 7 % 2 ^ 57 * 2 ^ 7 + d % 2 ^ 2
 compared-parts d =

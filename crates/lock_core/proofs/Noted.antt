@@ -16,10 +16,6 @@ use Rattle.lock_core.specs.declared.doing.Doing.{Doing}
 use Rattle.lock_core.specs.Words.{without_bits, state_of, known_words, known_of, noted_state, next_state, changes, is_noted}
 use Rattle.lock_core.specs.Steps.{with_noted}
 
-pub not_true : (b : Bool) → ¬ (b ≡ true) → b ≡ false
-not_true true n = absurd (n refl)
-not_true false n = refl
-
 pub or_has : (a b : Bool) → (not a || b) ≡ true → a ≡ true → b ≡ true
 or_has true b h e = h
 or_has false b h e = absurd (false≢true e)

@@ -1,8 +1,8 @@
 -- Worked values of the definitions, which the checker computes.
 use Rattle.std.specs.Prelude.{reverse}
-use Rattle.std.proofs.Common.{◌≡◌, ℕ, List, [], ◌∷◌, Bool, true, false, Some, None, map, refl}
+use Rattle.std.proofs.Common.{◌≡◌, ℕ, List, [], ◌∷◌, Bool, true, false, Some, map, refl}
 use Rattle.entry_model.specs.State.{State, empty_state}
-use Rattle.entry_model.specs.Reply.{has_base}
+use Rattle.entry_model.specs.Reply.{has_base, no_test}
 use Rattle.entry_model.specs.declared.operation.Op.{Op}
 use Rattle.entry_model.specs.declared.operation.Op.TheVariants.{Enter, Remove, Read, Access}
 use Rattle.entry_model.specs.declared.operation.Answer.{Answer}
@@ -34,11 +34,13 @@ entry referenced changed =
       stamp = 1;
     }
 
+-- An access to this page, without masks.
 unfoldable pub access : Want → Op
 access want = Access 0x1001 12 false false want no_masks
 
+-- A removal that removes whatever is there.
 unfoldable pub removal : Op
-removal = Remove (record { avpn = None; andcond = None })
+removal = Remove no_test
 
 -- The machine of this entry with two actors, after steps in their order.
 after : List (ℕ × Step) → Machine

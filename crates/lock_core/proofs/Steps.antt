@@ -1,7 +1,7 @@
 -- The steps of a holder: lock, data loads, shut, data stores, settle and release.
 use Rattle.std.specs.Prelude.{slice_get, if◌then◌else◌}
 use Rattle.std.proofs.Common.{◌≡◌, ◌≢◌, ℕ, ◌+◌, ◌<◌, ◌^◌, ◌&&◌, not, Bool, true, false, List, inl, inr, refl, sym, ap, ◌∙◌, subst, arith, Some, None}
-use Rattle.std.proofs.lemmas.Bool.{and_parts, cond_both, false≢true, eqb-true, not-true}
+use Rattle.std.proofs.lemmas.Bool.{and_parts, cond_both, false≢true, eqb-true, not-true, false_from_ne_true}
 use Rattle.entry_model.specs.State.{State}
 use Rattle.entry_model.specs.declared.operation.Op.{Op}
 use Rattle.entry_model.specs.declared.receipt.Receipt.{Receipt}
@@ -18,7 +18,7 @@ use Rattle.lock_core.specs.Steps.{result_without_receipt, result_with_receipt, n
 use Rattle.lock_core.proofs.Kept.{IsOn, EntryOk, HeldOk, ShutOk, IsFresh, HasMoreBits, LookedOk, PhaseOk, Kept}
 use Rattle.lock_core.proofs.Moves.{Change, lock_is_on, phase_stays}
 use Rattle.lock_core.proofs.Lists.{some_same, none_some}
-use Rattle.lock_core.proofs.Noted.{not_true, or_has, same_words, state_is, known_words_of, still_is, next_canonical, raised, changes_alike}
+use Rattle.lock_core.proofs.Noted.{or_has, same_words, state_is, known_words_of, still_is, next_canonical, raised, changes_alike}
 
 -- ---- what others have looked at
 -- The entry is shut: nobody reads its words.
@@ -223,7 +223,7 @@ module _ (opening : List State) (m : Machine) (log : List Receipt) (k : Kept ope
   lock_free e x op at idle other unlocked =
       let ok : EntryOk x = k.entries e x at in
       let y : Entry = locked_entry x true in
-      let unshut : x.control.shut ≡ false = not_true x.control.shut
+      let unshut : x.control.shut ≡ false = false_from_ne_true x.control.shut
       (λ h. false≢true (sym unlocked ∙ ok.shut h)) in
       let nobody' :
       (j : ℕ) (b : Actor) → slice_get m.actors j ≡ Some b → ¬ HoldsEntry e b.phase = λ j

@@ -3,6 +3,9 @@ use crate::sighting::Sighting;
 use entry_model::Receipt;
 use std::marker::Model;
 
+/// The most actors of a machine.
+pub const MOST_ACTORS: u32 = 64;
+
 /// An actor, which contracts see as that of `specs/Machine.antt`.
 #[derive(Drop)]
 pub struct Actor {

@@ -20,7 +20,7 @@ mod step;
 mod step_result;
 mod words;
 
-pub use actor::Actor;
+pub use actor::{Actor, MOST_ACTORS};
 pub use control::Control;
 pub use doing::Doing;
 pub use entry::Entry;

@@ -9,13 +9,10 @@ use crate::seeing::seen_in;
 use crate::taking::{entry_of, fits, take_step};
 use crate::words::quiet_entry;
 use entry_model::{EntryState, Receipt};
-use lock_core::{Actor, Control, CoreError, Entry, Phase, Sighting, Step};
+use lock_core::{Actor, Control, CoreError, Entry, MOST_ACTORS, Phase, Sighting, Step};
 use std::alloc::{AllocError, Global};
 use std::marker::Model;
 use std::mem::replace;
-
-/// The most actors that there may be.
-const MOST_ACTORS: u32 = 64;
 
 /// A table of entries and the actors that take steps on it. Contracts see it as the machine of
 /// `lock_core`'s `specs/Machine.antt`.

@@ -3,7 +3,7 @@ use Rattle.std.specs.Prelude.{codes, is_some}
 use Rattle.std.specs.List.{list_all}
 use Rattle.std.specs.Str.{bytes_eq}
 use Rattle.std.proofs.Common.{◌≡◌, ◌∙◌, ℕ, ◌<◌, ◌≤◌, Bool, true, false, List, [], ◌∷◌, length, Option, Some, None, Result, Ok, Err, refl, sym, ap, subst, if◌then◌else◌, ltb, not, ◌&&◌, arith}
-use Rattle.std.proofs.lemmas.Bool.{false≢true, ltb-false, ltb-true, not-true, not-false}
+use Rattle.std.proofs.lemmas.Bool.{false≢true, ltb-false, ltb-true, not-true, not-false, and_parts}
 use Rattle.frame_grants.specs.declared.grant.Grant.{Grant}
 use Rattle.hpt_pool.specs.Pool.{lowest_place}
 use Rattle.trace_read.specs.declared.forms.Form.{Form}
@@ -31,7 +31,6 @@ use Rattle.lpar_set.proofs.OwnLines.{own_moves}
 use Rattle.lpar_set.proofs.OwnText.{own_line_read}
 use Rattle.lpar_set.proofs.SetLinesKept.{named_below}
 use Rattle.lpar_set.proofs.SetReadingsKept.{retaken}
-use Rattle.lpar_set.proofs.PlainLines.{both_hold}
 use Rattle.lpar_set.proofs.TakenSteps.{IsStopped, at_test, behind_test, guard_stopped, AreStopped, at_step, behind_step, steps_stopped, never_err, required_stopped, required_taken, last_guard}
 use Rattle.trace_line.specs.Lines.{most_lines}
 
@@ -278,7 +277,7 @@ member_faulty before r line number why own mine e =
           (after_text (retaken (counted r) number) (own_words (words_in line))))
           → IsFaulty before r line why
       by (at_test both same) =
-          let parts = both_hold _ _ (not-false _ both) in
+          let parts = and_parts _ _ (not-false _ both) in
           against whys.Place why same
           (early number (number_here number number line own.named refl) parts.0
           (sym own.is.turned ∙ parts.1))

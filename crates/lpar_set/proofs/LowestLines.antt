@@ -2,7 +2,7 @@
 use Rattle.std.specs.Prelude.{is_some}
 use Rattle.std.specs.List.{list_all, list_any}
 use Rattle.std.proofs.Common.{◌≡◌, ◌∙◌, ℕ, ◌+◌, ◌<◌, ◌≤◌, Bool, true, false, List, [], ◌∷◌, ◌++◌, length, Option, Some, None, Result, Ok, Err, refl, sym, ap, subst, if◌then◌else◌, ◌&&◌, arith}
-use Rattle.std.proofs.lemmas.Bool.{false≢true, lt-ltb}
+use Rattle.std.proofs.lemmas.Bool.{false≢true, lt-ltb, and_left, and_right}
 use Rattle.std.proofs.lemmas.List.{append_assoc, append-nil, length-append, map-append}
 use Rattle.std.proofs.lemmas.List.Elements.{All-from_get_or}
 use Rattle.std.proofs.lemmas.List.Folds.{list_all_at, list_any_none}
@@ -21,7 +21,7 @@ use Rattle.lpar_set.proofs.Followed.{IsFollowed, followed_first, line_followed}
 use Rattle.lpar_set.proofs.LinesStopped.{never_accepted}
 use Rattle.lpar_set.proofs.OwnReadings.{lines_on, refused_behind}
 use Rattle.lpar_set.proofs.Partitions.{own_ends}
-use Rattle.lpar_set.proofs.PlainLines.{remarks_read, and_false}
+use Rattle.lpar_set.proofs.PlainLines.{remarks_read}
 use Rattle.lpar_set.proofs.SetEnds.{set_read}
 use Rattle.lpar_set.proofs.SetReadingsKept.{retaken}
 use Rattle.lpar_set.proofs.Walked.{Reads, too_long, by_lines, Walk, walked, stopped, reads, walk_lines}
@@ -116,9 +116,6 @@ end_refused :
     → (if occurs && begun then Ok s else Err end) ≡ Err end
 end_refused occurs begun s end e = rw e refl
 
-and_first : (a b : Bool) → a ≡ false → (a && b) ≡ false
-and_first a b e = rw e refl
-
 no_begin :
     (r : SetReading)
     → (list_any is_some r.readings && list_all has_begun r.readings) ≡ false
@@ -140,7 +137,7 @@ none_told lines r is all =
     (λ k inside.
     (let below : k < 8 = subst (λ n. k < n) is.sound.eight inside in
     is.occurs k below ∙ all k below))) in
-    no_begin r (and_first (list_any is_some r.readings) (list_all has_begun r.readings) none_there)
+    no_begin r (and_left (list_any is_some r.readings) (list_all has_begun r.readings) none_there)
 
 waiting :
     (r : SetReading) (number : ℕ) (o : Option Reading)
@@ -163,7 +160,7 @@ unbegun_told lines r number is below named waits =
     let not_yet : has_begun (reading_at r number) ≡ false = waiting r number (reading_at r number)
     refl (is.occurs number below ∙ named) waits in
     no_begin r
-    (and_false (list_any is_some r.readings) (list_all has_begun r.readings)
+    (and_right (list_any is_some r.readings) (list_all has_begun r.readings)
     (list_all_at has_begun r.readings number None inside not_yet))
 
 -- ---- a partition's own lines

@@ -4,6 +4,7 @@ use Rattle.std.specs.Str.{bytes_eq}
 use Rattle.std.proofs.Common.{◌≡◌, ◌∙◌, ℕ, ◌+◌, Bool, true, false, List, [], ◌∷◌, length, Option, Some, None, Result, Ok, Err, refl, ap, sym, subst, if◌then◌else◌, leb, eqb}
 use Rattle.std.proofs.lemmas.Bool.{false≢true, or_parts}
 use Rattle.std.proofs.lemmas.List.{length_push}
+use Rattle.std.proofs.lemmas.Option.{none-some}
 use Rattle.frame_grants.specs.declared.error.GrantError.{GrantError}
 use Rattle.frame_grants.specs.declared.grant.Grant.{Grant}
 use Rattle.frame_grants.specs.declared.grant.Kind.{Kind}
@@ -29,7 +30,7 @@ use Rattle.trace_read.specs.Settings.{number_within, with_order, with_limit, wit
 use Rattle.trace_read.specs.TextLines.{is_remark}
 use Rattle.trace_read.specs.Whys.{guard, required}
 use Rattle.lpar_set.specs.SetGrammar.{is_of_the_whole}
-use Rattle.lpar_set.proofs.TakenSteps.{same_ok, never_ok, never_some, steps_taken, guard_taken, required_taken}
+use Rattle.lpar_set.proofs.TakenSteps.{same_ok, never_ok, steps_taken, guard_taken, required_taken}
 use Rattle.hpte_fields.specs.TableSize.{least_order}
 use Rattle.lpar_set.proofs.LineMoves.{HasRun, HasMoved}
 
@@ -268,7 +269,7 @@ own_some form own =
       some_same a b e = cc
 
 own_none : AreOwn None
-own_none = record { each = λ other e. absurd (never_some other e) }
+own_none = record { each = λ other e. absurd (none-some other e) }
 
 own_if :
     (test : Bool) (form : Form) (o : Option Form)

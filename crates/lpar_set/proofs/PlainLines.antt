@@ -1,8 +1,8 @@
 -- Lines that name no partition: remarks, and `shared`.
 use Rattle.std.specs.Prelude.{codes}
 use Rattle.std.specs.List.{list_all, list_any}
-use Rattle.std.proofs.Common.{◌≡◌, ◌∙◌, ℕ, ◌+◌, ◌≤◌, Bool, true, false, List, [], ◌∷◌, length, Option, Some, None, Ok, refl, sym, ap, if◌then◌else◌, ltb, ◌&&◌, arith}
-use Rattle.std.proofs.lemmas.Bool.{eqb-true, false≢true}
+use Rattle.std.proofs.Common.{◌≡◌, ◌∙◌, ℕ, ◌+◌, ◌≤◌, Bool, true, false, List, [], ◌∷◌, length, Option, Some, None, Ok, refl, sym, ap, if◌then◌else◌, ltb, arith}
+use Rattle.std.proofs.lemmas.Bool.{eqb-true, false≢true, and_right, and_parts}
 use Rattle.std.proofs.lemmas.Slice.Eq.{bytes_eq-Decides}
 use Rattle.trace_read.specs.Grammar.{Reading}
 use Rattle.trace_read.specs.Numbers.{number_of, digits_number}
@@ -13,19 +13,15 @@ use Rattle.lpar_set.proofs.OwnText.{remark_read}
 use Rattle.trace_line.specs.Lines.{most_lines}
 
 -- ---- words that are no number
-pub and_false : (a b : Bool) → b ≡ false → (a && b) ≡ false
-and_false true b e = e
-and_false false b e = refl
-
 none_if : (test : Bool) (n : ℕ) → test ≡ false → (if test then Some n else None) ≡ None
 none_if test n e = rw e refl
 
 no_digits : (cs : List ℕ) → digits_number 10 20 (35 ∷ cs) ≡ None
-no_digits cs = none_if _ _ (and_false _ _ refl)
+no_digits cs = none_if _ _ (and_right _ _ refl)
 
 hash_number : (cs : List ℕ) → number_of (35 ∷ cs) ≡ None
 unfolding number_of
-hash_number cs = rw (and_false (ltb 1 (length (35 ∷ cs))) _ refl) (no_digits cs)
+hash_number cs = rw (and_right (ltb 1 (length (35 ∷ cs))) _ refl) (no_digits cs)
 
 -- A remark names no partition.
 pub remark_numberless : (ws : List (List ℕ)) → is_remark ws ≡ true → first_number ws ≡ None
@@ -72,15 +68,11 @@ stays_remark number line other = rw other refl
 abbrev AreRemarks : List ℕ → List (List ℕ) → Type 0
 AreRemarks line rest = (is_remark_line line ≡ true) × (list_all is_remark_line rest ≡ true)
 
-pub both_hold : (a b : Bool) → (a && b) ≡ true → (a ≡ true) × (b ≡ true)
-both_hold true b e = (refl, e)
-both_hold false b e = absurd (false≢true e)
-
 pub are_remarks :
     (line : List ℕ) (rest : List (List ℕ))
     → list_all is_remark_line (line ∷ rest) ≡ true
     → AreRemarks line rest
-are_remarks line rest all = both_hold (is_remark_line line) (list_all is_remark_line rest) all
+are_remarks line rest all = and_parts (is_remark_line line) (list_all is_remark_line rest) all
 
 pub remarks_read :
     (ls : List (List ℕ)) (q : Reading) (number : ℕ)

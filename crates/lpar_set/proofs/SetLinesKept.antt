@@ -4,6 +4,7 @@ use Rattle.std.specs.List.{list_all}
 use Rattle.std.specs.Str.{bytes_eq}
 use Rattle.std.proofs.Common.{◌≡◌, ℕ, ◌+◌, ◌<◌, ◌≤◌, Bool, true, false, List, [], ◌∷◌, length, Option, Some, None, Ok, refl, subst, if◌then◌else◌, ltb, eqb, not, arith}
 use Rattle.std.proofs.lemmas.Bool.{ltb-true, not-true}
+use Rattle.std.proofs.lemmas.Option.{none-some}
 use Rattle.pool_range.specs.Ranges.{IsPoolRange, range_refusal}
 use Rattle.trace_read.specs.declared.why.Why.TheVariants as whys
 use Rattle.trace_read.specs.Acts.{number_at}
@@ -14,7 +15,7 @@ use Rattle.lpar_set.specs.SetGrammar.{SetReading, after_allowed, after_numbered_
 use Rattle.lpar_set.specs.SetReadings.{IsSetReading}
 use Rattle.lpar_set.proofs.EmptySet.{counted_is, empty_is, range_is}
 use Rattle.lpar_set.proofs.SetReadingsKept.{member_keeps}
-use Rattle.lpar_set.proofs.TakenSteps.{behind_guard, never_some, required_taken, same_ok, steps_taken}
+use Rattle.lpar_set.proofs.TakenSteps.{behind_guard, required_taken, same_ok, steps_taken}
 use Rattle.trace_line.specs.Lines.{most_lines}
 
 -- ---- the shared pool
@@ -46,13 +47,13 @@ shared_keeps r s ws is e =
 
 -- ---- the partition that a line names
 below_is : (o : Option ℕ) (number : ℕ) → below_8 o ≡ Some number → number < 8
-below_is None number e = absurd (never_some number e)
+below_is None number e = absurd (none-some number e)
 below_is (Some n) number e = by (ltb n 8) refl e where
   by : (test : Bool) → ltb n 8 ≡ test → (if test then Some n else None) ≡ Some number → number < 8
   by true is e =
       let same : n ≡ number = cc in
       subst (λ m. m < 8) same (ltb-true n 8 is)
-  by false is e = absurd (never_some number e)
+  by false is e = absurd (none-some number e)
 
 -- A partition that a word names has a number below 8.
 pub named_below : (w : List ℕ) (number : ℕ) → partition_named w ≡ Ok number → number < 8

@@ -11,10 +11,6 @@ same_ok said x y first second = cc
 pub never_ok : {A E : Type 0} (why : E) (x : A) → Err why ≡ Ok x → ⊥
 never_ok why x e = cc
 
--- Nothing is no value.
-pub never_some : {A : Type 0} (x : A) → None ≡ Some x → ⊥
-never_some x e = cc
-
 -- The first step gave a value, from which the rest went on to this end.
 pub record AreTaken {A B : Type 0} (said : Result A Why) (f : A → Result B Why) (end : B) :
     Type 0 where

@@ -8,18 +8,17 @@ ghost use Rattle.entry_lock.specs.PassInvariants.{most_passes};
 use c_layout::{PaprEntry, is_table};
 use entry_model::EntryState;
 use hpt_resize::StateHolder;
+use lock_core::MOST_ACTORS;
 use papr_codes::Rc;
 use shared_pass::{PaprPass, Working};
 use std::alloc::Global;
 
-/// The most passes of a table.
-const MOST_PASSES: u32 = 64;
-
-/// Whether the entries are a table, and there can be so many passes of it.
+/// Whether the entries are a table, and there can be so many passes of it: each is an actor of the
+/// table's machine.
 fn can_open(entries: &[PaprEntry], order: u8, passes: u32) -> bool
     ensures { result ≡ spec.can_open (states_of entries.now) order passes }
 {
-    is_table(entries, order) && 0 < passes && passes <= MOST_PASSES
+    is_table(entries, order) && 0 < passes && passes <= MOST_ACTORS
 }
 
 /// A list of what the caller's entries hold. `None` for want of memory.

@@ -1,7 +1,7 @@
 -- What the ranges of a page's parts say: the seven kinds of page, and that an address has 78 bits.
 use Rattle.std.specs.Prelude.{IsTrue, ◌==◌, ◌||◌, ◌&&◌}
 use Rattle.std.proofs.Common.{◌≡◌, ℕ, ◌+◌, ◌-◌, ◌*◌, ◌/◌, ◌%◌, ◌^◌, ◌<◌, Bool, true, false, arith, sym, refl, subst, inl, inr, ◌⊎◌, Some, None}
-use Rattle.std.proofs.lemmas.Bool.{or_cases, eqb-true, false≢true, ltb-true, lt-ltb, cases_Bool}
+use Rattle.std.proofs.lemmas.Bool.{or_cases, eqb-true, false≢true, ltb-true, lt-ltb, cases_Bool, and_parts}
 use Rattle.power_addr.specs.Pages.{VirtualPage, IsPage, is_vsid, offset_bits, vsid_bits, is_base_shift, virtual_address, page_at_address, page_of_address}
 
 -- The bits of a segment's offset, and a base page size that fits.
@@ -43,11 +43,6 @@ kind_of true s h = first (or_cases (12 == s) _ h) where
   first : (12 == s) ≡ true ⊎ (16 == s || (24 == s || (34 == s || false))) ≡ true → IsKind 40 s
   first (inl e) = subst (λ z. IsKind 40 z) (eqb-true 12 s e) large_4k
   first (inr e) = second (or_cases (16 == s) _ e)
-
-pub both_true : (a b : Bool) → (a && b) ≡ true → (a ≡ true) × (b ≡ true)
-both_true true true h = (refl, refl)
-both_true true false h = absurd (false≢true h)
-both_true false b h = absurd (false≢true h)
 
 -- A segment's number and a page's index stay within the bits of an address.
 in_address :
@@ -93,7 +88,7 @@ page_of_address-some b v s ea p e = at (cases_Bool (is_vsid b v && is_base_shift
   at (inl fine) =
       let some : page_of_address b v s ea ≡ Some (page_at_address b v s ea) = rw fine refl in
       let same : p ≡ page_at_address b v s ea = cc in
-      let parts = both_true (is_vsid b v) (is_base_shift b s) fine in
+      let parts = and_parts (is_vsid b v) (is_base_shift b s) fine in
       let is : IsPage (page_at_address b v s ea) = record {
         vsid = ltb-true v (2 ^ vsid_bits b) parts.0;
         shift = parts.1;

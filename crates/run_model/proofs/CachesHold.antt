@@ -21,7 +21,7 @@ use Rattle.entry_model.specs.Run.{state_at, IsRun}
 use Rattle.entry_model.proofs.Runs.{run-length}
 use Rattle.entry_model.specs.Trial.{IsTrial}
 use Rattle.entry_model.proofs.LineLaws.{run_holds, run_shows}
-use Rattle.tlb_model.proofs.CachedPages.{all_filter, all_put_last, all_in_set_of, all_written, all_cached_weaker, all_empty}
+use Rattle.tlb_model.proofs.CachedPages.{all_put_last, all_in_set_of, all_cached_weaker, all_empty}
 use Rattle.hpt_walk.specs.Walk.{walk_calls}
 use Rattle.hpt_walk.specs.Translations.{TranslatesItsPage}
 use Rattle.run_model.specs.StoreContexts.{StoreContext, access_of}
@@ -37,7 +37,7 @@ use Rattle.trace_reply.specs.Replies.{RepliedLine, receipts_in}
 use Rattle.run_model.specs.Processors.{processor_at, processor_after, processors_after}
 use Rattle.run_model.specs.LineReplies.{IsReplyToAccess}
 use Rattle.run_model.proofs.Undisturbed.{IsUndisturbed}
-use Rattle.basics.proofs.Each.{each_map, each_set, each_at}
+use Rattle.basics.proofs.Each.{each_map, each_set, each_at, each_filter}
 use Rattle.entry_model.specs.Reply.{AccessMode}
 use Rattle.entry_model.specs.declared.access_reply.Outcome.TheVariants as outcomes
 use Rattle.trace_line.specs.declared.act.Act.TheVariants as acts
@@ -144,13 +144,13 @@ walk_fresh :
     → AllCached (IsFresh b) (after_walk cache seg.page r)
 unfolding after_walk
 walk_fresh set seg x r a b cache w run h =
-    let kept : AllInSet (IsFresh b) (without_page seg.page (set_of cache seg.page)) = all_filter
+    let kept : AllInSet (IsFresh b) (without_page seg.page (set_of cache seg.page)) = each_filter
     (IsFresh b) (λ line. not (is_of seg.page line)) (set_of cache seg.page)
     (all_in_set_of (IsFresh b) cache seg.page h) in
-    all_written (IsFresh b) cache (set_number seg.page) _ h
+    each_set (AllInSet (IsFresh b)) cache (set_number seg.page) _
     (kept_fresh b seg.page r.outcome (found_of r.receipts)
     (without_page seg.page (set_of cache seg.page))
-    (found_fresh set.order seg.page (mode_for seg x) a b r.receipts w.trial run) kept)
+    (found_fresh set.order seg.page (mode_for seg x) a b r.receipts w.trial run) kept) h
 
 -- ---- a processor after its line
 way_fresh :

@@ -26,6 +26,7 @@ at_stamp stamp =
       stamp = stamp;
     }
 
+-- The entry at stamp 2, with R.
 unfoldable pub with_r : State
 with_r = record (at_stamp 2) { referenced = true }
 

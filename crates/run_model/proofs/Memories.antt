@@ -1,7 +1,7 @@
 -- What the two resize calls keep of a partition at memory.
 use Rattle.std.specs.Prelude.{◌==◌, ◌||◌, nat_lt, nat_le, IfSome}
-use Rattle.std.proofs.Common.{◌≡◌, ℕ, ◌-◌, ◌^◌, ◌≤◌, Bool, true, false, refl, ◌⊎◌, inl, inr, not, List, length, Option, Some, None, arith}
-use Rattle.std.proofs.lemmas.Bool.{cond_both, and_parts, ltb-false, leb-true}
+use Rattle.std.proofs.Common.{◌≡◌, ℕ, ◌-◌, ◌^◌, ◌≤◌, true, false, refl, ◌⊎◌, inl, inr, not, List, length, Option, Some, None, arith}
+use Rattle.std.proofs.lemmas.Bool.{cond_both, and_parts, ltb-false, leb-true, not-false}
 use Rattle.papr_codes.specs.declared.codes.Rc.{Rc}
 use Rattle.papr_codes.specs.declared.codes.Rc.TheVariants.{Success}
 use Rattle.table_image.specs.declared.entry.ImageEntry.{ImageEntry}
@@ -78,10 +78,6 @@ request_low flags shift h off =
     leb-true least_order shift
     (and_parts (nat_le least_order shift) (nat_le shift greatest_architected_order) known).0
 
-not_true : (b : Bool) → not b ≡ false → b ≡ true
-not_true true h = refl
-not_true false h = cc
-
 prepared_allows :
     (limit flags shift : ℕ) (pending : Option PendingTable) (pool : PoolState)
     → limit ≤ greatest_order
@@ -94,7 +90,7 @@ prepared_allows limit flags shift pending pool high h =
     cond_both (nat_lt limit shift) _ _ Allows (λ _. h)
     (λ below.
     cond_both (shift == 0) _ _ Allows (λ _. tt)
-    (λ some. made (not_true _ asked) below some))) where
+    (λ some. made (not-false _ asked) below some))) where
       made :
           is_prepare_request flags shift ≡ true
           → nat_lt limit shift ≡ false

@@ -33,6 +33,7 @@ present =
       stamp = 1;
     }
 
+-- The receipt of the H_ENTER that entered it.
 abbrev pub entered : Receipt
 entered = receipt_of 0 (empty_state 0) (ops.Enter 0x1001 0x3012)
 

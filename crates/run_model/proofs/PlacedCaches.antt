@@ -30,7 +30,7 @@ use Rattle.entry_model.proofs.Heights.{at_valid}
 use Rattle.tlb_model.specs.Cache.{is_of, set_of, set_number, cached_line, without_page, AllInSet, AllCached}
 use Rattle.tlb_model.specs.CacheAfter.{kept_line, set_with, after_walk, cache_after}
 use Rattle.tlb_model.specs.Processor.{Processor, new_processor, without_cache}
-use Rattle.tlb_model.proofs.CachedPages.{all_filter, all_put_last, all_in_set_of, all_written, all_cached, all_empty, cached_is_of}
+use Rattle.tlb_model.proofs.CachedPages.{all_put_last, all_in_set_of, all_cached, all_empty, cached_is_of}
 use Rattle.hpt_walk.specs.Access.{AccessContext, logical_of, landing_at, outcome_by, outcome_of, refused_by, refusing_mask, IsByWay, IsAccessReply, request, mode_for}
 use Rattle.hpt_walk.specs.declared.request.Request.{Request}
 use Rattle.hpt_walk.specs.Laws.{WasOfPage, HasFirstWord}
@@ -52,7 +52,7 @@ use Rattle.run_model.specs.Sections.{processor_after_lines, processors_after_lin
 use Rattle.run_model.specs.GoodRun.{EachLineOfProcessor, IsAccessLine}
 use Rattle.run_model.specs.Landings.{IsLanding, Lands, LandsByItsEntry}
 use Rattle.run_model.proofs.ProcessorLists.{after_each}
-use Rattle.basics.proofs.Each.{each_map, each_at, each_filter, each_of_map}
+use Rattle.basics.proofs.Each.{each_map, each_at, each_filter, each_of_map, each_set}
 use Rattle.run_model.proofs.LineReceipts.{receipts_of_each}
 use Rattle.run_model.proofs.LowStamps.{IsLowStamp, top, FromLowStamp}
 use Rattle.run_model.proofs.Memories.{prepare_table}
@@ -240,11 +240,11 @@ walk_placed :
 unfolding after_walk
 walk_placed granted order ea seg r cache lands h =
     let left : AllInSet (StandsInItsGroup order) (without_page seg.page (set_of cache seg.page)) =
-    all_filter (StandsInItsGroup order) (λ line. not (is_of seg.page line))
+    each_filter (StandsInItsGroup order) (λ line. not (is_of seg.page line))
     (set_of cache seg.page) (all_in_set_of (StandsInItsGroup order) cache seg.page h) in
-    all_written (StandsInItsGroup order) cache (set_number seg.page) _ h
+    each_set (AllInSet (StandsInItsGroup order)) cache (set_number seg.page) _
     (kept_placed granted order ea seg r.outcome (found_of r.receipts)
-    (without_page seg.page (set_of cache seg.page)) lands left)
+    (without_page seg.page (set_of cache seg.page)) lands left) h
 
 way_placed :
     (granted : GrantedMemory) (order ea : ℕ) (seg : Segment) (by : Option By) (r : AccessReply)

@@ -1,7 +1,6 @@
 -- Each byte of a page of main storage lies in a grant of main storage.
-use Rattle.std.proofs.Common.{◌≡◌, ℕ, ◌+◌, ◌%◌, ◌<◌, ◌≤◌, true, false, Option, Some, None, refl, sym, ap, ◌∙◌, arith}
+use Rattle.std.proofs.Common.{◌≡◌, ℕ, ◌%◌, ◌<◌, true, false, Option, Some, None, refl, sym, ap, ◌∙◌, arith}
 use Rattle.std.specs.Option.{option_map_or}
-use Rattle.std.proofs.lemmas.Bool.Decides.{nat_tests}
 use Rattle.std.proofs.Math.Nat.{mod-lt}
 use Rattle.bus_window.specs.Windows.{page_bytes}
 use Rattle.dma_window.specs.Devices.{logical_of}
@@ -12,6 +11,7 @@ use Rattle.frame_grants.specs.declared.grant.Kind.{Kind}
 use Rattle.frame_grants.specs.declared.grant.Kind.TheVariants.{Ram, Io}
 use Rattle.frame_grants.specs.Grants.{GrantedMemory, AreApart, holds, machine_range}
 use Rattle.frame_grants.proofs.Holding.{machine_range-within, one_holds}
+use Rattle.frame_grants.proofs.Landing.{part_held}
 
 kind_of : (kind : Kind) → is_ram_kind kind ≡ true → kind ≡ Ram
 kind_of Ram ram = refl
@@ -23,14 +23,6 @@ page_found :
     → (x : ℕ × Kind) × ((place ≡ Some x) × (x.1 ≡ Ram))
 page_found None ram = cc
 page_found (Some x) ram = (x, (refl, kind_of x.1 ram))
-
-part_held :
-    (logical length part : ℕ) (grant : Grant)
-    → holds logical length grant ≡ true
-    → logical ≤ part
-    → part + 1 ≤ logical + length
-    → holds part 1 grant ≡ true
-part_held logical length part grant whole low high = grind (arith, nat_tests, whole, low, high)
 
 -- The grant of a byte is the one that holds the byte's page.
 pub byte_is_ram :

@@ -1,9 +1,9 @@
 -- In a good run a line that is refused leaves the entries of its receipts, its processor's
 -- segments, and its cache but for a line that was gone.
-use Rattle.std.specs.Prelude.{not, is_none}
+use Rattle.std.specs.Prelude.{is_none}
 use Rattle.std.proofs.Common.{◌≡◌, ℕ, List, [], ◌∷◌, Bool, true, false, ap, sym, ◌∙◌, refl, subst, ◌⊎◌, inl, inr, Option, Some, None}
 use Rattle.std.specs.List.{AllByRecursion}
-use Rattle.std.proofs.lemmas.Bool.{cases_Bool, false≢true}
+use Rattle.std.proofs.lemmas.Bool.{cases_Bool, false≢true, not-true}
 use Rattle.std.proofs.lemmas.List.{set-get_or}
 use Rattle.power_addr.specs.Pages.{VirtualPage}
 use Rattle.power_addr.proofs.SamePages.{page_same}
@@ -250,10 +250,6 @@ way_cache cache seg (Some Hit) r off = refl
 way_cache cache seg None r off = refl
 
 -- ---- each line
-false_of_not : (b : Bool) → not b ≡ true → b ≡ false
-false_of_not false h = refl
-false_of_not true h = cc
-
 access_all :
     (context : AccessContext) (p : Processor) (want : _) (ea : ℕ) (user : Bool)
     (segment : Option Segment) (r : AccessReply)
@@ -309,7 +305,7 @@ line_leaves granted context p (acts.Access want ea user) (replies.Access r) call
     refused =
     access_all context p want ea user (segment_of p.slots ea) r refl access
     (lands_nowhere granted context.order ea (segment_of p.slots ea) (found_of r.receipts)
-    r.outcome lands (false_of_not (ends_at r.outcome) refused))
+    r.outcome lands (not-true (ends_at r.outcome) refused))
 line_leaves granted context p (acts.Device write liobn ioba) (replies.Device r) call access lands
     refused =
     subst (λ (x : Reply). LeavesAll p (acts.Device write liobn ioba) x) (sym call)
@@ -317,7 +313,7 @@ line_leaves granted context p (acts.Device write liobn ioba) (replies.Device r) 
 line_leaves granted context p (acts.SlbMte rb rs) (replies.Segment accepted) call access lands
     refused =
     let told : accepted ≡ is_none (mte_refusal rb rs) = cc in
-    mte_all p rb rs accepted told (false_of_not accepted refused)
+    mte_all p rb rs accepted told (not-true accepted refused)
 line_leaves granted context p act reply call access lands refused = absurd (false≢true refused)
 
 -- ---- a run

@@ -112,6 +112,7 @@ unfolding entry_words hex_on_literals
 old_past_high = refl
 
 -- ---- images
+-- An entry of an image: its index and its doublewords.
 unfoldable pub entry : ℕ → ℕ → ℕ → ImageEntry
 entry index dword0 dword1 = record { index = index; dword0 = dword0; dword1 = dword1 }
 

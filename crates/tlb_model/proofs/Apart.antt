@@ -5,7 +5,7 @@ use Rattle.std.proofs.lemmas.Bool.{cases_Bool, cond_both}
 use Rattle.power_addr.specs.Pages.{VirtualPage, same_page}
 use Rattle.entry_model.specs.declared.line.Line.{Line}
 use Rattle.tlb_model.specs.Cache.{is_of, line_of_page, without_page}
-use Rattle.tlb_model.proofs.CachedPages.{all_filter, all_append}
+use Rattle.basics.proofs.Each.{each_append, each_filter}
 use Rattle.power_addr.proofs.SamePages.{page_same, page_self}
 use Rattle.tlb_model.specs.Sets.{AreApart, IsLineSet}
 
@@ -37,8 +37,8 @@ apart_append :
 apart_append [] line apart none = (tt, tt)
 apart_append (l ∷ ls) line apart none =
     let (there, rest) = none_of_page line.page l ls none in (
-      all_append (λ other. is_of l.page other ≡ false) ls line apart.0
-          (false_other_way l.page line.page there),
+      each_append (λ other. is_of l.page other ≡ false) ls (line ∷ []) apart.0
+          (false_other_way l.page line.page there, tt),
       apart_append ls line apart.1 rest,
     )
 
@@ -71,7 +71,7 @@ apart_filter p [] apart = tt
 apart_filter p (l ∷ ls) apart =
     cond_both (p l) (l ∷ filter p ls) (filter p ls) AreApart
     (λ _.
-    (all_filter (λ other. is_of l.page other ≡ false) p ls apart.0, apart_filter p ls apart.1))
+    (each_filter (λ other. is_of l.page other ≡ false) p ls apart.0, apart_filter p ls apart.1))
     (λ _. apart_filter p ls apart.1)
 
 fewer : (p : Line → Bool) (lines : List Line) → length (filter p lines) ≤ length lines

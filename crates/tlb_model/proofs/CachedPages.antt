@@ -1,9 +1,10 @@
 -- What holds of each line of a cache.
-use Rattle.std.proofs.Common.{◌≡◌, ℕ, zero, suc, List, [], ◌∷◌, ◌++◌, Bool, true, false, Some, None, ◌⊎◌, inl, inr, refl, length, get_or, drop, find, filter, slice_set, IfSome, nat_lt}
+use Rattle.std.proofs.Common.{◌≡◌, List, [], ◌∷◌, ◌++◌, Bool, true, false, Some, None, ◌⊎◌, inl, inr, refl, length, drop, find, IfSome, nat_lt}
 use Rattle.std.proofs.lemmas.Bool.{cases_Bool, cond_both}
 use Rattle.power_addr.specs.Pages.{VirtualPage}
 use Rattle.entry_model.specs.declared.line.Line.{Line}
 use Rattle.tlb_model.specs.Cache.{is_of, set_of, set_number, line_of_page, cached_line, empty_cache, without_page, put_last, AllInSet, AllCached}
+use Rattle.basics.proofs.Each.{each_append, each_at, each_map, each_replicate}
 use Rattle.power_addr.proofs.SamePages.{page_same}
 
 -- ---- one set
@@ -16,71 +17,25 @@ all_find P p (l ∷ ls) all =
     cond_both (p l) (Some l) (find p ls) (λ found. IfSome found P) (λ _. all.0)
     (λ _. all_find P p ls all.1)
 
-pub all_filter :
-    (P : Line → Type 0) (p : Line → Bool) (lines : List Line)
-    → AllInSet P lines
-    → AllInSet P (filter p lines)
-all_filter P p [] all = tt
-all_filter P p (l ∷ ls) all =
-    cond_both (p l) (l ∷ filter p ls) (filter p ls) (AllInSet P)
-    (λ _. (all.0, all_filter P p ls all.1)) (λ _. all_filter P p ls all.1)
-
-pub all_append :
-    (P : Line → Type 0) (lines : List Line) (line : Line)
-    → AllInSet P lines
-    → P line
-    → AllInSet P (lines ++ line ∷ [])
-all_append P [] line all fact = (fact, tt)
-all_append P (l ∷ ls) line all fact = (all.0, all_append P ls line all.1 fact)
-
-pub all_drop :
-    (P : Line → Type 0) (lines : List Line) → AllInSet P lines → AllInSet P (drop 1 lines)
-all_drop P [] all = tt
-all_drop P (l ∷ ls) all = all.1
-
 pub all_put_last :
     (P : Line → Type 0) (lines : List Line) (line : Line)
     → AllInSet P lines
     → P line
     → AllInSet P (put_last line lines)
 all_put_last P lines line all fact =
-    let more = all_append P lines line all fact in
+    let more = each_append P lines (line ∷ []) all (fact, tt) in
     cond_both (nat_lt 4 (length (lines ++ line ∷ []))) (drop 1 (lines ++ line ∷ []))
-    (lines ++ line ∷ []) (AllInSet P) (λ _. all_drop P _ more) (λ _. more)
-
--- What holds of each line may be another fact.
-pub all_weaker :
-    (P Q : Line → Type 0)
-    → ((line : Line) → P line → Q line)
-    → (lines : List Line)
-    → AllInSet P lines
-    → AllInSet Q lines
-all_weaker P Q law [] all = tt
-all_weaker P Q law (l ∷ ls) all = (law l all.0, all_weaker P Q law ls all.1)
+    (lines ++ line ∷ []) (AllInSet P) (λ _. but_first (lines ++ line ∷ []) more) (λ _. more) where
+      but_first : (ls : List Line) → AllInSet P ls → AllInSet P (drop 1 ls)
+      but_first [] h = tt
+      but_first (l ∷ ls) h = h.1
 
 -- ---- all sets
-pub all_set :
-    (P : Line → Type 0) (cache : List (List Line)) (k : ℕ)
-    → AllCached P cache
-    → AllInSet P (get_or cache k [])
-all_set P [] k all = tt
-all_set P (s ∷ ss) zero all = all.0
-all_set P (s ∷ ss) (suc k) all = all_set P ss k all.1
-
 pub all_in_set_of :
     (P : Line → Type 0) (cache : List (List Line)) (page : VirtualPage)
     → AllCached P cache
     → AllInSet P (set_of cache page)
-all_in_set_of P cache page all = all_set P cache (set_number page) all
-
-pub all_written :
-    (P : Line → Type 0) (cache : List (List Line)) (k : ℕ) (lines : List Line)
-    → AllCached P cache
-    → AllInSet P lines
-    → AllCached P (slice_set cache k lines)
-all_written P [] k lines all fact = tt
-all_written P (s ∷ ss) zero lines all fact = (fact, all.1)
-all_written P (s ∷ ss) (suc k) lines all fact = (all.0, all_written P ss k lines all.1 fact)
+all_in_set_of P cache page all = each_at (AllInSet P) cache (set_number page) [] tt all
 
 pub all_cached :
     (P : Line → Type 0) (cache : List (List Line)) (page : VirtualPage)
@@ -96,88 +51,12 @@ pub all_cached_weaker :
     → (cache : List (List Line))
     → AllCached P cache
     → AllCached Q cache
-all_cached_weaker P Q law [] all = tt
-all_cached_weaker P Q law (s ∷ ss) all =
-    (all_weaker P Q law s all.0, all_cached_weaker P Q law ss all.1)
+all_cached_weaker P Q law cache all =
+    each_map (AllInSet P) (AllInSet Q) cache (λ lines h. each_map P Q lines law h) all
 
 pub all_empty : (P : Line → Type 0) → AllCached P empty_cache
 unfolding empty_cache
-all_empty P = (
-  tt,
-  (
-    tt,
-    (
-      tt,
-      (
-        tt,
-        (
-          tt,
-          (
-            tt,
-            (
-              tt,
-              (
-                tt,
-                (
-                  tt,
-                  (
-                    tt,
-                    (
-                      tt,
-                      (
-                        tt,
-                        (
-                          tt,
-                          (
-                            tt,
-                            (
-                              tt,
-                              (
-                                tt,
-                                (
-                                  tt,
-                                  (
-                                    tt,
-                                    (
-                                      tt,
-                                      (
-                                        tt,
-                                        (
-                                          tt,
-                                          (
-                                            tt,
-                                            (
-                                              tt,
-                                              (
-                                                tt,
-                                                (
-                                                  tt,
-                                                  (tt, (tt, (tt, (tt, (tt, (tt, (tt, tt))))))),
-                                                ),
-                                              ),
-                                            ),
-                                          ),
-                                        ),
-                                      ),
-                                    ),
-                                  ),
-                                ),
-                              ),
-                            ),
-                          ),
-                        ),
-                      ),
-                    ),
-                  ),
-                ),
-              ),
-            ),
-          ),
-        ),
-      ),
-    ),
-  ),
-)
+all_empty P = each_replicate (AllInSet P) 32 [] tt
 
 -- ---- the line that is found
 -- It is of the page.

@@ -5,7 +5,8 @@ use Rattle.std.proofs.lemmas.List.{get_or_default}
 use Rattle.power_addr.specs.Pages.{VirtualPage}
 use Rattle.entry_model.specs.declared.line.Line.{Line}
 use Rattle.tlb_model.specs.Cache.{is_of, set_of, set_number, empty_cache, without_page, put_last}
-use Rattle.tlb_model.proofs.CachedPages.{all_filter, all_put_last}
+use Rattle.basics.proofs.Each.{each_filter}
+use Rattle.tlb_model.proofs.CachedPages.{all_put_last}
 use Rattle.tlb_model.specs.Sets.{IsCache, IsForSet, with_set}
 
 -- ---- no lines
@@ -91,7 +92,7 @@ pub without_for :
     → IsCache cache
     → IsForSet (set_number page) (without_page page (set_of cache page))
 without_for cache page sound =
-    all_filter (λ l. set_number l.page ≡ set_number page) (λ line. not (is_of page line))
+    each_filter (λ l. set_number l.page ≡ set_number page) (λ line. not (is_of page line))
     (set_of cache page) (sound.placed (set_number page))
 
 -- ---- one set is read

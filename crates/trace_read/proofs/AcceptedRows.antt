@@ -18,6 +18,7 @@ use Rattle.trace_read.specs.Numbers.{number_of}
 use Rattle.trace_read.specs.Settings.{default_settings, number_within, with_order, with_limit, with_cpus, pool_named, with_pool, grant_named, with_granted, with_begin}
 use Rattle.trace_line.specs.Lines.{is_quiet}
 
+-- A line of a trace, with its number, its processor and its act.
 unfoldable pub run_line : ℕ → ℕ → Act → TraceLine
 run_line number cpu act = record { number = number; cpu = cpu; act = act }
 

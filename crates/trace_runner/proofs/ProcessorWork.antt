@@ -75,6 +75,7 @@ done_with keeps set table lines cpu w (inr ended) = (
 
 module _ {L : Type 0} (keeps : Keeping L) (set : StoreContext) (table : LockTable)
     (lines : List TraceLine) (ts : List RepliedLine) (picks : ℕ → List Reply) where
+  -- The states that the table was opened on.
   abbrev pub a : List State
   a = table.opening.items
 

@@ -1,7 +1,7 @@
 -- What the processors of a section did together, and what is behind it.
 use Rattle.std.proofs.Common.{◌≡◌, ℕ, zero, suc, ◌+◌, ◌<◌, ◌≤◌, List, [], ◌∷◌, length, map, true, false, ap, sym, ◌∙◌, refl, subst, ◌⊎◌, inl, inr, eqb, arith}
 use Rattle.std.specs.List.{AllByRecursion}
-use Rattle.std.proofs.lemmas.Bool.{cases_Bool, eqb-true}
+use Rattle.std.proofs.lemmas.Bool.{cases_Bool, eqb-true, cases_lt}
 use Rattle.std.proofs.lemmas.List.{length-map}
 use Rattle.entry_model.specs.State.{State}
 use Rattle.entry_model.specs.declared.line.Line.{Line}
@@ -90,17 +90,9 @@ past_end [] e h = refl
 past_end (x ∷ xs) zero h = absurd (omega arith)
 past_end (x ∷ xs) (suc e) h = past_end xs e (omega arith)
 
-pub below_or : (e n : ℕ) → (e < n) ⊎ (n ≤ e)
-below_or e zero = inr (omega arith)
-below_or zero (suc n) = inl (omega arith)
-below_or (suc e) (suc n) = more (below_or e n) where
-  more : (e < n) ⊎ (n ≤ e) → (suc e < suc n) ⊎ (suc n ≤ suc e)
-  more (inl h) = inl (omega (arith, h))
-  more (inr h) = inr (omega (arith, h))
-
 -- A line that is gone is of an entry that has a front.
 gone_inside : (f : List ℕ) (line : Line) → IsGone f line → line.entry < length f
-gone_inside f line gone = at (below_or line.entry (length f)) where
+gone_inside f line gone = at (cases_lt line.entry (length f)) where
   at : (line.entry < length f) ⊎ (length f ≤ line.entry) → line.entry < length f
   at (inl h) = h
   at (inr h) = let zero_front = past_end f line.entry h in absurd (omega (arith, gone, zero_front))
@@ -211,7 +203,7 @@ module _ {L : Type 0} (keeps : Keeping L) (set : StoreContext) (opening : List S
         subst
         (λ l.
         Works set (opening_fronts l) (processor_at processors cpu) (lines_of_processor cpu ts)
-        (fronts cpu)) is (each (below_or cpu (length ws))) where
+        (fronts cpu)) is (each (cases_lt cpu (length ws))) where
           each :
               (cpu < length ws) ⊎ (length ws ≤ cpu)
               → Works set (opening_fronts a) (processor_at processors cpu)
@@ -247,7 +239,7 @@ module _ {L : Type 0} (keeps : Keeping L) (set : StoreContext) (opening : List S
 
     inside_of : (cpu : ℕ) (line : Line) → IsGone (fronts cpu) line → line.entry < length a
     inside_of cpu line gone =
-        subst (λ n. line.entry < n) (front_size cpu (below_or cpu (length ws)))
+        subst (λ n. line.entry < n) (front_size cpu (cases_lt cpu (length ws)))
         (gone_inside (fronts cpu) line gone)
 
     at :

@@ -8,8 +8,9 @@ use Rattle.entry_model.specs.declared.access_reply.AccessReply.{AccessReply}
 use Rattle.entry_model.specs.declared.access_reply.By.TheVariants.{Walk}
 use Rattle.entry_model.specs.declared.access_reply.Outcome.{Outcome}
 use Rattle.entry_model.specs.declared.access_reply.Outcome.TheVariants.{At}
-use Rattle.tlb_model.specs.Cache.{is_of, line_of_page, set_of, set_number, cached_line, without_page, put_last, AllCached}
-use Rattle.tlb_model.proofs.CachedPages.{none_without, all_filter, all_put_last, all_in_set_of, all_written}
+use Rattle.tlb_model.specs.Cache.{is_of, line_of_page, set_of, set_number, cached_line, without_page, put_last, AllInSet, AllCached}
+use Rattle.basics.proofs.Each.{each_filter, each_set}
+use Rattle.tlb_model.proofs.CachedPages.{none_without, all_put_last, all_in_set_of}
 use Rattle.tlb_model.specs.Sets.{with_set}
 use Rattle.entry_model.specs.Receipt.{found_of}
 use Rattle.entry_model.specs.CachedLines.{line_of}
@@ -52,9 +53,9 @@ pub all_dropped :
     → AllCached P cache
     → AllCached P (dropped page cache)
 all_dropped P page cache all =
-    all_written P cache (set_number page) (without_page page (set_of cache page)) all
-    (all_filter P (λ line. not (is_of page line)) (set_of cache page)
-    (all_in_set_of P cache page all))
+    each_set (AllInSet P) cache (set_number page) (without_page page (set_of cache page))
+    (each_filter P (λ line. not (is_of page line)) (set_of cache page)
+    (all_in_set_of P cache page all)) all
 
 -- ---- a line is put last
 pub kept_is_of :
@@ -84,8 +85,8 @@ pub all_kept :
     → AllCached P (with_kept kept cache)
 all_kept P None cache all fact = all
 all_kept P (Some line) cache all fact =
-    all_written P cache (set_number line.page) (put_last line (set_of cache line.page)) all
-    (all_put_last P (set_of cache line.page) line (all_in_set_of P cache line.page all) fact)
+    each_set (AllInSet P) cache (set_number line.page) (put_last line (set_of cache line.page))
+    (all_put_last P (set_of cache line.page) line (all_in_set_of P cache line.page all) fact) all
 
 put_is :
     (page : VirtualPage) (outcome : Outcome) (found : Option Receipt) (lines : List Line)

@@ -25,7 +25,7 @@ compare_exchange-requires g c =
           (DecidingPlay MarkTells z.1
           (step c.args.table.now.table_id.slots (control_place d.entry) z.0 c.args.new
           none) c.args.seat.now.me))
-          (λ i. (sym c.word_from-noted.ensures i, sym c.requires.said i))
+          (λ i. (sym c.word_from-noted.ensures.value i, sym c.requires.said i))
           (mark_allowed c.args.table.now.key c.args.table.now.table_id.slots c.args.seat.now.id
           c.args.seat.now.me c.requires.acting d inside c.requires.looked c.requires.read
           c.args.new c.requires.may c.requires.new),

@@ -9,7 +9,7 @@ use Rattle.entry_lock.proofs.accesses.raise_bits.Goals as goal
 pub returns-then-found-looked-clause-made : goal.returns-then-found-looked-clause-made
 returns-then-found-looked-clause-made c =
     let t = c.mark-found.ensures.told in
-    let p = t.3 (c.if-found-looked.true ∙ c.word_from-looked.ensures) in
+    let p = t.3 (c.if-found-looked.true ∙ c.word_from-looked.ensures.value) in
     subst (λ (r : Receipt). MadeReceipt c.args.seat.now.me.0 c.mark-found.new.seat.me.0 r)
     (sym c.requires.outcome)
     (made_counted c.args.seat.now.me.0 c.mark-found.new.seat.me.0 _ _ _ _ _ p.0 p.1)

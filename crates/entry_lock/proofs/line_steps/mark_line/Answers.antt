@@ -26,7 +26,8 @@ compare_exchange-requires g c =
           (LinePlay (LineMarkTells z.1 z.2)
           (step c.args.table.now.table_id.slots (control_place d.entry) z.0 c.args.new
           none) c.args.seat.now.me))
-          (λ i. (sym c.word_from-noted.ensures i, sym c.requires.cached i, sym c.requires.said i))
+          (λ i.
+          (sym c.word_from-noted.ensures.value i, sym c.requires.cached i, sym c.requires.said i))
           (known_mark_allowed c.args.table.now.key c.args.table.now.table_id.slots
           c.args.seat.now.id c.args.seat.now.me c.requires.acting c.args.known.now d inside
           c.requires.looked c.requires.read c.requires.on c.requires.stamp c.requires.seen

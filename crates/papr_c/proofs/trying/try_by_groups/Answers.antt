@@ -1,11 +1,9 @@
-use Rattle.std.specs.Prelude.{None}
 use Rattle.std.specs.List.{AllByRecursion}
 use Rattle.std.proofs.Common.{◌≡◌, ◌<◌, ◌≤◌, length, [], arith, sym, subst, ◌∙◌}
 use Rattle.entry_model.specs.Trial.{Call}
-use Rattle.papr_c.specs.Tried.{LentPair, IsTriedNext}
+use Rattle.papr_c.specs.Tried.{IsTriedNext}
 use Rattle.papr_c.proofs.SoFar.{starts, so_far_next, told_last, past_last}
 use Rattle.c_layout.proofs.Marks.{passed_none, passed_both}
-use Rattle.c_layout.specs.Entries.{states_of}
 use Rattle.papr_c.proofs.trying.try_by_groups.Goals as goal
 
 pub loop-made-init : goal.loop-made-init
@@ -23,69 +21,27 @@ try_next-requires-clause-near g c = c.loop-made.invariant.so_far.1.inside
 
 pub returns-in-Some-clause-entries : goal.returns-in-Some-clause-entries
 returns-in-Some-clause-entries g c =
-    let m : LentPair = record {
-      before = (states_of c.loop-made.entries);
-      after = (states_of c.try_next.new.entries);
-      slots_before = c.loop-made.receipts;
-      slots_after = c.try_next.new.receipts;
-    } in
-    (told_last _ (g.C.CallList.calls c.args.calls.now) c.loop-made.made
-    (states_of c.args.entries.now)
-    c.args.receipts.now m _ _ c.in-Some.ensures.next c.loop-made.invariant.so_far).entries
+    (told_last _ _ _ _ _ _ _ _ c.in-Some.ensures.next c.loop-made.invariant.so_far).entries
 
 pub returns-in-Some-clause-receipts : goal.returns-in-Some-clause-receipts
 returns-in-Some-clause-receipts g c =
-    let m : LentPair = record {
-      before = (states_of c.loop-made.entries);
-      after = (states_of c.try_next.new.entries);
-      slots_before = c.loop-made.receipts;
-      slots_after = c.try_next.new.receipts;
-    } in
-    (told_last _ (g.C.CallList.calls c.args.calls.now) c.loop-made.made
-    (states_of c.args.entries.now)
-    c.args.receipts.now m _ _ c.in-Some.ensures.next c.loop-made.invariant.so_far).receipts
+    (told_last _ _ _ _ _ _ _ _ c.in-Some.ensures.next c.loop-made.invariant.so_far).receipts
 
 pub returns-in-Some-clause-count : goal.returns-in-Some-clause-count
 returns-in-Some-clause-count g c =
-    let m : LentPair = record {
-      before = (states_of c.loop-made.entries);
-      after = (states_of c.try_next.new.entries);
-      slots_before = c.loop-made.receipts;
-      slots_after = c.try_next.new.receipts;
-    } in
-    (told_last _ (g.C.CallList.calls c.args.calls.now) c.loop-made.made
-    (states_of c.args.entries.now)
-    c.args.receipts.now m _ _ c.in-Some.ensures.next c.loop-made.invariant.so_far).counted
+    (told_last _ _ _ _ _ _ _ _ c.in-Some.ensures.next c.loop-made.invariant.so_far).counted
 
 pub returns-in-Some-clause-ending : goal.returns-in-Some-clause-ending
 returns-in-Some-clause-ending g c =
-    let m : LentPair = record {
-      before = (states_of c.loop-made.entries);
-      after = (states_of c.try_next.new.entries);
-      slots_before = c.loop-made.receipts;
-      slots_after = c.try_next.new.receipts;
-    } in
-    (told_last _ (g.C.CallList.calls c.args.calls.now) c.loop-made.made
-    (states_of c.args.entries.now)
-    c.args.receipts.now m _ _ c.in-Some.ensures.next c.loop-made.invariant.so_far).ending
+    (told_last _ _ _ _ _ _ _ _ c.in-Some.ensures.next c.loop-made.invariant.so_far).ending
 
 pub loop-made-preserved : goal.loop-made-preserved
 loop-made-preserved g c =
-    let m : LentPair = record {
-      before = (states_of c.loop-made.entries);
-      after = (states_of c.try_next.new.entries);
-      slots_before = c.loop-made.receipts;
-      slots_after = c.try_next.new.receipts;
-    } in
-    let next : IsTriedNext (g.C.CallList.goes_on c.args.calls.now)
-    (g.C.CallList.calls c.args.calls.now) c.loop-made.made m None = subst
-    (IsTriedNext (g.C.CallList.goes_on c.args.calls.now) (g.C.CallList.calls c.args.calls.now)
-    c.loop-made.made m) c.in_default.is c.try_next.ensures.next in
     record {
       so_far =
-          so_far_next _ (g.C.CallList.calls c.args.calls.now) c.loop-made.made
-          (states_of c.args.entries.now)
-          c.args.receipts.now m next c.loop-made.invariant.so_far;
+          so_far_next _ _ _ _ _ _
+          (subst (IsTriedNext _ _ _ _) c.in_default.is c.try_next.ensures.next)
+          c.loop-made.invariant.so_far;
       passed =
           passed_both c.args.entries.now c.loop-made.entries c.try_next.new.entries
           c.loop-made.invariant.passed c.try_next.ensures.passed;
@@ -103,71 +59,32 @@ try_next-requires-in-loop-made-2-clause-near g c = c.loop-made-2.invariant.so_fa
 
 pub returns-in-Some-try_next-clause-entries : goal.returns-in-Some-try_next-clause-entries
 returns-in-Some-try_next-clause-entries g c =
-    let m : LentPair = record {
-      before = (states_of c.loop-made-2.entries);
-      after = (states_of c.try_next-in-loop-made-2.new.entries);
-      slots_before = c.loop-made-2.receipts;
-      slots_after = c.try_next-in-loop-made-2.new.receipts;
-    } in
-    (told_last _ (g.C.CallList.calls c.args.calls.now) c.loop-made-2.made
-    (states_of c.args.entries.now)
-    c.args.receipts.now m _ _ c.in-Some-try_next.ensures.next
+    (told_last _ _ _ _ _ _ _ _ c.in-Some-try_next.ensures.next
     c.loop-made-2.invariant.so_far).entries
 
 pub returns-in-Some-try_next-clause-receipts : goal.returns-in-Some-try_next-clause-receipts
 returns-in-Some-try_next-clause-receipts g c =
-    let m : LentPair = record {
-      before = (states_of c.loop-made-2.entries);
-      after = (states_of c.try_next-in-loop-made-2.new.entries);
-      slots_before = c.loop-made-2.receipts;
-      slots_after = c.try_next-in-loop-made-2.new.receipts;
-    } in
-    (told_last _ (g.C.CallList.calls c.args.calls.now) c.loop-made-2.made
-    (states_of c.args.entries.now)
-    c.args.receipts.now m _ _ c.in-Some-try_next.ensures.next
+    (told_last _ _ _ _ _ _ _ _ c.in-Some-try_next.ensures.next
     c.loop-made-2.invariant.so_far).receipts
 
 pub returns-in-Some-try_next-clause-count : goal.returns-in-Some-try_next-clause-count
 returns-in-Some-try_next-clause-count g c =
-    let m : LentPair = record {
-      before = (states_of c.loop-made-2.entries);
-      after = (states_of c.try_next-in-loop-made-2.new.entries);
-      slots_before = c.loop-made-2.receipts;
-      slots_after = c.try_next-in-loop-made-2.new.receipts;
-    } in
-    (told_last _ (g.C.CallList.calls c.args.calls.now) c.loop-made-2.made
-    (states_of c.args.entries.now)
-    c.args.receipts.now m _ _ c.in-Some-try_next.ensures.next
+    (told_last _ _ _ _ _ _ _ _ c.in-Some-try_next.ensures.next
     c.loop-made-2.invariant.so_far).counted
 
 pub returns-in-Some-try_next-clause-ending : goal.returns-in-Some-try_next-clause-ending
 returns-in-Some-try_next-clause-ending g c =
-    let m : LentPair = record {
-      before = (states_of c.loop-made-2.entries);
-      after = (states_of c.try_next-in-loop-made-2.new.entries);
-      slots_before = c.loop-made-2.receipts;
-      slots_after = c.try_next-in-loop-made-2.new.receipts;
-    } in
-    (told_last _ (g.C.CallList.calls c.args.calls.now) c.loop-made-2.made
-    (states_of c.args.entries.now)
-    c.args.receipts.now m _ _ c.in-Some-try_next.ensures.next c.loop-made-2.invariant.so_far).ending
+    (told_last _ _ _ _ _ _ _ _ c.in-Some-try_next.ensures.next
+    c.loop-made-2.invariant.so_far).ending
 
 pub loop-made-2-preserved : goal.loop-made-2-preserved
 loop-made-2-preserved g c =
-    let m : LentPair = record {
-      before = (states_of c.loop-made-2.entries);
-      after = (states_of c.try_next-in-loop-made-2.new.entries);
-      slots_before = c.loop-made-2.receipts;
-      slots_after = c.try_next-in-loop-made-2.new.receipts;
-    } in
-    let next : IsTriedNext (g.C.CallList.goes_on c.args.calls.now)
-    (g.C.CallList.calls c.args.calls.now) c.loop-made-2.made m None = subst
-    (IsTriedNext (g.C.CallList.goes_on c.args.calls.now) (g.C.CallList.calls c.args.calls.now)
-    c.loop-made-2.made m) c.in_default-try_next.is c.try_next-in-loop-made-2.ensures.next in
     record {
       so_far =
-          so_far_next _ (g.C.CallList.calls c.args.calls.now) c.loop-made-2.made
-          (states_of c.args.entries.now) c.args.receipts.now m next c.loop-made-2.invariant.so_far;
+          so_far_next _ _ _ _ _ _
+          (subst (IsTriedNext _ _ _ _) c.in_default-try_next.is
+          c.try_next-in-loop-made-2.ensures.next)
+          c.loop-made-2.invariant.so_far;
       passed =
           passed_both c.args.entries.now c.loop-made-2.entries
           c.try_next-in-loop-made-2.new.entries c.loop-made-2.invariant.passed
@@ -179,15 +96,13 @@ pub returns-clause-entries : goal.returns-clause-entries
 returns-clause-entries g c =
     let past : length (g.C.CallList.calls c.args.calls.now) ≤ c.loop-made-2.made = omega
     (arith, c.requires.few) in
-    (past_last _ (g.C.CallList.calls c.args.calls.now) c.loop-made-2.made _ _ _ _ _ past
-    c.loop-made-2.invariant.so_far.1).entries
+    (past_last _ _ _ _ _ _ _ _ past c.loop-made-2.invariant.so_far.1).entries
 
 pub returns-clause-receipts : goal.returns-clause-receipts
 returns-clause-receipts g c =
     let past : length (g.C.CallList.calls c.args.calls.now) ≤ c.loop-made-2.made = omega
     (arith, c.requires.few) in
-    (past_last _ (g.C.CallList.calls c.args.calls.now) c.loop-made-2.made _ _ _ _ _ past
-    c.loop-made-2.invariant.so_far.1).receipts
+    (past_last _ _ _ _ _ _ _ _ past c.loop-made-2.invariant.so_far.1).receipts
 
 pub returns-clause-count : goal.returns-clause-count
 returns-clause-count g c =
@@ -196,15 +111,13 @@ returns-clause-count g c =
     let all : 16 ≡ c.loop-made-2.made = omega arith in
     all
     ∙
-    (past_last _ (g.C.CallList.calls c.args.calls.now) c.loop-made-2.made _ _ _ _ _ past
-    c.loop-made-2.invariant.so_far.1).counted
+    (past_last _ _ _ _ _ _ _ _ past c.loop-made-2.invariant.so_far.1).counted
 
 pub returns-clause-ending : goal.returns-clause-ending
 returns-clause-ending g c =
     let past : length (g.C.CallList.calls c.args.calls.now) ≤ c.loop-made-2.made = omega
     (arith, c.requires.few) in
-    (past_last _ (g.C.CallList.calls c.args.calls.now) c.loop-made-2.made _ _ _ _ _ past
-    c.loop-made-2.invariant.so_far.1).ending
+    (past_last _ _ _ _ _ _ _ _ past c.loop-made-2.invariant.so_far.1).ending
 
 pub returns-in-Some-clause-passed : goal.returns-in-Some-clause-passed
 returns-in-Some-clause-passed g c =

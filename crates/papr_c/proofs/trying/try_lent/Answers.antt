@@ -1,11 +1,9 @@
-use Rattle.std.specs.Prelude.{None}
 use Rattle.std.specs.List.{AllByRecursion}
 use Rattle.std.proofs.Common.{◌≡◌, ◌<◌, ◌≤◌, length, [], arith, sym, subst, ◌∙◌}
 use Rattle.entry_model.specs.Trial.{Call}
-use Rattle.papr_c.specs.Tried.{LentPair, IsTriedNext}
+use Rattle.papr_c.specs.Tried.{IsTriedNext}
 use Rattle.papr_c.proofs.SoFar.{starts, so_far_next, told_last, past_last}
 use Rattle.c_layout.proofs.Marks.{passed_none, passed_both}
-use Rattle.c_layout.specs.Entries.{states_of}
 use Rattle.papr_c.proofs.trying.try_lent.Goals as goal
 
 pub loop-made-init : goal.loop-made-init
@@ -23,69 +21,27 @@ try_next-requires-clause-near g c = c.loop-made.invariant.so_far.1.inside
 
 pub returns-in-Some-clause-entries : goal.returns-in-Some-clause-entries
 returns-in-Some-clause-entries g c =
-    let m : LentPair = record {
-      before = (states_of c.loop-made.entries);
-      after = (states_of c.try_next.new.entries);
-      slots_before = c.loop-made.receipts;
-      slots_after = c.try_next.new.receipts;
-    } in
-    (told_last _ (g.C.CallList.calls c.args.calls.now) c.loop-made.made
-    (states_of c.args.entries.now)
-    c.args.receipts.now m _ _ c.in-Some.ensures.next c.loop-made.invariant.so_far).entries
+    (told_last _ _ _ _ _ _ _ _ c.in-Some.ensures.next c.loop-made.invariant.so_far).entries
 
 pub returns-in-Some-clause-receipts : goal.returns-in-Some-clause-receipts
 returns-in-Some-clause-receipts g c =
-    let m : LentPair = record {
-      before = (states_of c.loop-made.entries);
-      after = (states_of c.try_next.new.entries);
-      slots_before = c.loop-made.receipts;
-      slots_after = c.try_next.new.receipts;
-    } in
-    (told_last _ (g.C.CallList.calls c.args.calls.now) c.loop-made.made
-    (states_of c.args.entries.now)
-    c.args.receipts.now m _ _ c.in-Some.ensures.next c.loop-made.invariant.so_far).receipts
+    (told_last _ _ _ _ _ _ _ _ c.in-Some.ensures.next c.loop-made.invariant.so_far).receipts
 
 pub returns-in-Some-clause-count : goal.returns-in-Some-clause-count
 returns-in-Some-clause-count g c =
-    let m : LentPair = record {
-      before = (states_of c.loop-made.entries);
-      after = (states_of c.try_next.new.entries);
-      slots_before = c.loop-made.receipts;
-      slots_after = c.try_next.new.receipts;
-    } in
-    (told_last _ (g.C.CallList.calls c.args.calls.now) c.loop-made.made
-    (states_of c.args.entries.now)
-    c.args.receipts.now m _ _ c.in-Some.ensures.next c.loop-made.invariant.so_far).counted
+    (told_last _ _ _ _ _ _ _ _ c.in-Some.ensures.next c.loop-made.invariant.so_far).counted
 
 pub returns-in-Some-clause-ending : goal.returns-in-Some-clause-ending
 returns-in-Some-clause-ending g c =
-    let m : LentPair = record {
-      before = (states_of c.loop-made.entries);
-      after = (states_of c.try_next.new.entries);
-      slots_before = c.loop-made.receipts;
-      slots_after = c.try_next.new.receipts;
-    } in
-    (told_last _ (g.C.CallList.calls c.args.calls.now) c.loop-made.made
-    (states_of c.args.entries.now)
-    c.args.receipts.now m _ _ c.in-Some.ensures.next c.loop-made.invariant.so_far).ending
+    (told_last _ _ _ _ _ _ _ _ c.in-Some.ensures.next c.loop-made.invariant.so_far).ending
 
 pub loop-made-preserved : goal.loop-made-preserved
 loop-made-preserved g c =
-    let m : LentPair = record {
-      before = (states_of c.loop-made.entries);
-      after = (states_of c.try_next.new.entries);
-      slots_before = c.loop-made.receipts;
-      slots_after = c.try_next.new.receipts;
-    } in
-    let next : IsTriedNext (g.C.CallList.goes_on c.args.calls.now)
-    (g.C.CallList.calls c.args.calls.now) c.loop-made.made m None = subst
-    (IsTriedNext (g.C.CallList.goes_on c.args.calls.now) (g.C.CallList.calls c.args.calls.now)
-    c.loop-made.made m) c.in_default.is c.try_next.ensures.next in
     record {
       so_far =
-          so_far_next _ (g.C.CallList.calls c.args.calls.now) c.loop-made.made
-          (states_of c.args.entries.now)
-          c.args.receipts.now m next c.loop-made.invariant.so_far;
+          so_far_next _ _ _ _ _ _
+          (subst (IsTriedNext _ _ _ _) c.in_default.is c.try_next.ensures.next)
+          c.loop-made.invariant.so_far;
       passed =
           passed_both c.args.entries.now c.loop-made.entries c.try_next.new.entries
           c.loop-made.invariant.passed c.try_next.ensures.passed;
@@ -96,15 +52,13 @@ pub returns-clause-entries : goal.returns-clause-entries
 returns-clause-entries g c =
     let past : length (g.C.CallList.calls c.args.calls.now) ≤ c.loop-made.made = omega
     (arith, c.requires.few) in
-    (past_last _ (g.C.CallList.calls c.args.calls.now) c.loop-made.made _ _ _ _ _ past
-    c.loop-made.invariant.so_far.1).entries
+    (past_last _ _ _ _ _ _ _ _ past c.loop-made.invariant.so_far.1).entries
 
 pub returns-clause-receipts : goal.returns-clause-receipts
 returns-clause-receipts g c =
     let past : length (g.C.CallList.calls c.args.calls.now) ≤ c.loop-made.made = omega
     (arith, c.requires.few) in
-    (past_last _ (g.C.CallList.calls c.args.calls.now) c.loop-made.made _ _ _ _ _ past
-    c.loop-made.invariant.so_far.1).receipts
+    (past_last _ _ _ _ _ _ _ _ past c.loop-made.invariant.so_far.1).receipts
 
 pub returns-clause-count : goal.returns-clause-count
 returns-clause-count g c =
@@ -113,15 +67,13 @@ returns-clause-count g c =
     let all : 16 ≡ c.loop-made.made = omega arith in
     all
     ∙
-    (past_last _ (g.C.CallList.calls c.args.calls.now) c.loop-made.made _ _ _ _ _ past
-    c.loop-made.invariant.so_far.1).counted
+    (past_last _ _ _ _ _ _ _ _ past c.loop-made.invariant.so_far.1).counted
 
 pub returns-clause-ending : goal.returns-clause-ending
 returns-clause-ending g c =
     let past : length (g.C.CallList.calls c.args.calls.now) ≤ c.loop-made.made = omega
     (arith, c.requires.few) in
-    (past_last _ (g.C.CallList.calls c.args.calls.now) c.loop-made.made _ _ _ _ _ past
-    c.loop-made.invariant.so_far.1).ending
+    (past_last _ _ _ _ _ _ _ _ past c.loop-made.invariant.so_far.1).ending
 
 pub returns-in-Some-clause-passed : goal.returns-in-Some-clause-passed
 returns-in-Some-clause-passed g c =

@@ -9,7 +9,8 @@ use crate::receipt::Receipt;
 use crate::store::EntryStore;
 
 /// Makes the call behind the first `made` of a trial, and puts its receipt behind theirs. `None`
-/// where the trial goes on; else the receipt that ended it, or none where there was no further call.
+/// where the trial goes on; else the receipt that ended it, or none where there was no further
+/// call.
 #[inline(always)]
 fn make_next<S: EntryStore, C: CallList>(
     store: &mut S,

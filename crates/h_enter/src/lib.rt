@@ -1,5 +1,5 @@
-//! H_ENTER of LoPAR, over any store of page table entries. What the call tries, and what it answers,
-//! is its plan (`call_plan`).
+//! H_ENTER of LoPAR, over any store of page table entries. What the call tries, and what it
+//! answers, is its plan (`call_plan`).
 #![tactic(auto)]
 
 mod entering;

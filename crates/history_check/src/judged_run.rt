@@ -44,7 +44,9 @@ impl Model for JudgedRun {
 
     ghost Value = { AllStores };
 
-    ghost view = { λ r. machine_stores r.partition.granted.grants r.partition.memory r.processors.items r.windows.items };
+    ghost view = { λ r.
+        machine_stores r.partition.granted.grants r.partition.memory
+        r.processors.items r.windows.items };
 
     ghost invariant = { λ r.
         HasStates r.partition × NumbersDiffer (windows_in r.windows.items) };
@@ -82,7 +84,8 @@ fn table_found(
         IfNone
         found
         (HasNoSection
-        (opening_of (table_store partition.old.granted.grants partition.old.memory processors.old.items))
+        (opening_of
+        (table_store partition.old.granted.grants partition.old.memory processors.old.items))
         lines.now
         text.now)) }
     ensures has_states { HasStates partition.new }

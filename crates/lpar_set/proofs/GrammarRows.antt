@@ -45,8 +45,15 @@ run_line number act = record { number = number; cpu = 0; act = act }
 -- Two partitions, each with a run line.
 two :
     set_of
-    (codes
-    "shared 0x1000000000 19\n0 order 18\n0 ram 0x0 0x2000000000 0x40000000\n0 begin\n1 order 18\n1 ram 0x0 0x3000000000 0x40000000\n1 begin\n0 0 H_ENTER 0x0 0x20 0x1001 0x3012\n1 0 load 0x5000 priv\n")
+    (codes "shared 0x1000000000 19\n"
+    ++ codes "0 order 18\n"
+    ++ codes "0 ram 0x0 0x2000000000 0x40000000\n"
+    ++ codes "0 begin\n"
+    ++ codes "1 order 18\n"
+    ++ codes "1 ram 0x0 0x3000000000 0x40000000\n"
+    ++ codes "1 begin\n"
+    ++ codes "0 0 H_ENTER 0x0 0x20 0x1001 0x3012\n"
+    ++ codes "1 0 load 0x5000 priv\n")
     ≡ Ok
     (record {
       pool_base = 0x1000000000;
@@ -70,8 +77,12 @@ two = refl
 -- Machine memory of another partition.
 refused_stranger :
     set_of
-    (codes
-    "shared 0x1000000000 19\n0 order 18\n0 ram 0x0 0x2000000000 0x40000000\n0 begin\n1 order 18\n1 ram 0x0 0x2000000000 0x40000000\n")
+    (codes "shared 0x1000000000 19\n"
+    ++ codes "0 order 18\n"
+    ++ codes "0 ram 0x0 0x2000000000 0x40000000\n"
+    ++ codes "0 begin\n"
+    ++ codes "1 order 18\n"
+    ++ codes "1 ram 0x0 0x2000000000 0x40000000\n")
     ≡ Err (6, whys.Overlap)
 unfolding set_of after_set_lines after_set_line after_set_words after_allowed after_numbered_words
     with_shared after_member after_own with_given after_text after_words after_form form_of

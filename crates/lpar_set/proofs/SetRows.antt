@@ -76,8 +76,14 @@ nothing_changes = refl
 -- own table.
 both_run :
     set_text small_set (replies_from small_set opened small_set.turns)
-    ≡ codes
-    "2 5 0 slbmte ok\n5 6 0 slbmte ok\n2 7 0 H_ENTER 0 0x0 | 0x0.0.0.entered\n5 8 0 H_ENTER 0 0x0 | 0x0.0.0.entered\n5 9 0 load at 0x3000003234 walk | 0x0.1.0.at\n2 10 0 H_RESIZE_HPT_PREPARE -9\n5 11 dump table 0 order 18 place 0x1000040000 entries 1\n5  0x0 0x1001 0x3112 1\n"
+    ≡ codes "2 5 0 slbmte ok\n"
+    ++ codes "5 6 0 slbmte ok\n"
+    ++ codes "2 7 0 H_ENTER 0 0x0 | 0x0.0.0.entered\n"
+    ++ codes "5 8 0 H_ENTER 0 0x0 | 0x0.0.0.entered\n"
+    ++ codes "5 9 0 load at 0x3000003234 walk | 0x0.1.0.at\n"
+    ++ codes "2 10 0 H_RESIZE_HPT_PREPARE -9\n"
+    ++ codes "5 11 dump table 0 order 18 place 0x1000040000 entries 1\n"
+    ++ codes "5  0x0 0x1001 0x3112 1\n"
 unfolding digits head_text code_text entry_text dump_head table_text run_on line_result
     run_quiet_line run_resize shown_of hcall_plan is_quiet hcall_of row_of plan_run trial_run
     candidates suits_grants h_enter_plan machine_range mte_refusal tests_of_words no_slots

@@ -48,7 +48,8 @@ each_answer :
     ∷ receipt_of 4 (record used { dword1 = 0x3012 }) (reached 0x1001)
     ∷ receipt_of 5 worn (ops.Remove no_test)
     ∷ [])
-    ≡ codes
-    " | 0x0.7.0.entered 0x9.31.1.taken 0xa.31.1.removed 0x10.31.1.protected 0x3fff.4294967295.3.worn 0xff.4294967295.2.read 0x1.0.0.notfound 0x2.31.1.nomatch 0x3.31.1.denied 0x4.31.1.at 0x5.4294967295.3.worn"
+    ≡ codes " | 0x0.7.0.entered 0x9.31.1.taken 0xa.31.1.removed 0x10.31.1.protected"
+    ++ codes " 0x3fff.4294967295.3.worn 0xff.4294967295.2.read 0x1.0.0.notfound"
+    ++ codes " 0x2.31.1.nomatch 0x3.31.1.denied 0x4.31.1.at 0x5.4294967295.3.worn"
 unfolding digits used worn reached has_base permission rows row_says key_rows
 each_answer = refl

@@ -121,8 +121,19 @@ made =
 
 each_form :
     text_from lines made
-    ≡ codes
-    "10 63 H_ENTER -6 | 0x9.31.1.taken\n11 0 hcall 0 0xffffffffffffffff 0x0 | 0x9.31.1.read 0xa.0.0.read\n12 1 load at 0x2000003abc hit | 0x4.31.1.at\n13 1 store denied walk | 0x2.31.1.nomatch 0x3.31.1.denied\n14 1 fetch nopage walk | 0x2.31.1.nomatch\n15 1 load nosegment\n16 1 load ungranted 0x7000 walk\n17 1 slbmte ok\n18 1 slbmte refused\n19 1 slbclear ok\n131072 dump table 12 order 22 place 0x1000400000 entries 2\n 0x0 0x1001 0x3193 4294967295\n 0x3fff 0x4000000001000011 0x8000000000003012 2\n"
+    ≡ codes "10 63 H_ENTER -6 | 0x9.31.1.taken\n"
+    ++ codes "11 0 hcall 0 0xffffffffffffffff 0x0 | 0x9.31.1.read 0xa.0.0.read\n"
+    ++ codes "12 1 load at 0x2000003abc hit | 0x4.31.1.at\n"
+    ++ codes "13 1 store denied walk | 0x2.31.1.nomatch 0x3.31.1.denied\n"
+    ++ codes "14 1 fetch nopage walk | 0x2.31.1.nomatch\n"
+    ++ codes "15 1 load nosegment\n"
+    ++ codes "16 1 load ungranted 0x7000 walk\n"
+    ++ codes "17 1 slbmte ok\n"
+    ++ codes "18 1 slbmte refused\n"
+    ++ codes "19 1 slbclear ok\n"
+    ++ codes "131072 dump table 12 order 22 place 0x1000400000 entries 2\n"
+    ++ codes " 0x0 0x1001 0x3193 4294967295\n"
+    ++ codes " 0x3fff 0x4000000001000011 0x8000000000003012 2\n"
 unfolding digits lines made used worn reached has_base permission rows row_says key_rows hcall_of
     row_of text_from head_text code_text entry_text dump_head table_text
 each_form = refl
@@ -172,8 +183,10 @@ device_made =
 
 devices_told :
     text_from device_lines device_made
-    ≡ codes
-    "6 0 dmaread at 0x2000003008 | 0x5.1.0.read\n7 0 dmawrite denied | 0x5.1.0.read\n8 1 dmawrite nowindow\n9 1 dmaread ungranted 0x7000\n"
+    ≡ codes "6 0 dmaread at 0x2000003008 | 0x5.1.0.read\n"
+    ++ codes "7 0 dmawrite denied | 0x5.1.0.read\n"
+    ++ codes "8 1 dmawrite nowindow\n"
+    ++ codes "9 1 dmaread ungranted 0x7000\n"
 unfolding digits device_lines device_made text_from head_text
 devices_told = refl
 
@@ -182,8 +195,8 @@ devices_told = refl
 -- ungranted is an access alone.
 of_none :
     summary_text 0 [] []
-    ≡ codes
-    "lines 0\nhcalls 0\nsuccess 0\nfull 0\nnotfound 0\naccesses 0\nat 0\ndenied 0\nnopage 0\nhits 0\nentries 0\nchanged 0\n"
+    ≡ codes "lines 0\nhcalls 0\nsuccess 0\nfull 0\nnotfound 0\naccesses 0\nat 0\n"
+    ++ codes "denied 0\nnopage 0\nhits 0\nentries 0\nchanged 0\n"
 unfolding digits summary_text counts_text row_text entries_text
 of_none = refl
 
@@ -194,14 +207,14 @@ of_four :
     ∷ replies.Access (record { outcome = Denied; by = Some Hit; receipts = [] })
     ∷ replies.Segment true
     ∷ []) ((1, used) ∷ (2, record used { changed = false }) ∷ (3, worn) ∷ [])
-    ≡ codes
-    "lines 4\nhcalls 1\nsuccess 0\nfull 0\nnotfound 1\naccesses 2\nat 1\ndenied 1\nnopage 0\nhits 2\nentries 3\nchanged 2\n"
+    ≡ codes "lines 4\nhcalls 1\nsuccess 0\nfull 0\nnotfound 1\naccesses 2\nat 1\n"
+    ++ codes "denied 1\nnopage 0\nhits 2\nentries 3\nchanged 2\n"
 unfolding digits used worn summary_text counts_text row_text entries_text
 of_four = refl
 
 of_all :
     summary_text 11 made ((0, worn) ∷ [])
-    ≡ codes
-    "lines 11\nhcalls 2\nsuccess 1\nfull 1\nnotfound 0\naccesses 5\nat 1\ndenied 1\nnopage 1\nhits 1\nentries 1\nchanged 1\n"
+    ≡ codes "lines 11\nhcalls 2\nsuccess 1\nfull 1\nnotfound 0\naccesses 5\nat 1\n"
+    ++ codes "denied 1\nnopage 1\nhits 1\nentries 1\nchanged 1\n"
 unfolding digits made worn used summary_text counts_text row_text entries_text
 of_all = refl

@@ -4,8 +4,8 @@
 //!
 //! The calls are those of LoPAR on the page frame table and on DMA windows, and the accesses those
 //! of the Power ISA (Book III, hashed page table translation). `laws` has the theorems. What
-//! runs: `make_call`, which picks the hypervisor call of a line by its number, `make_device_access`,
-//! and `WindowEntries::line`, a line on a DMA window.
+//! runs: `make_call`, which picks the hypervisor call of a line by its number,
+//! `make_device_access`, and `WindowEntries::line`, a line on a DMA window.
 #![tactic(auto)]
 
 mod bus_lines;

@@ -129,8 +129,9 @@ image_of_one = refl
 image_of_two :
     image_of New 18 (entry 0 0x4000000001000001 0x3112 ∷ entry 0x3FFF 0x1001 0x3012 ∷ [])
     ≡ Ok
-    (codes
-    "image new order 18 entries 2\n0x0 00000000010000010400000000003112\n0x3fff 00000000000010010000000000003012\n")
+    (codes "image new order 18 entries 2\n"
+    ++ codes "0x0 00000000010000010400000000003112\n"
+    ++ codes "0x3fff 00000000000010010000000000003012\n")
 unfolding image_of image_head digits entry entry_digits hex_on_literals
 image_of_two = refl
 

@@ -7,8 +7,9 @@ use crate::outside::{Failed, Sink};
 use std::alloc::{AllocError, Global};
 use std::marker::Model;
 
-/// A sink that keeps the bytes in memory, takes a piece at a time and fails when it is taken_bytes to.
-/// Bytes past its room are taken and dropped, and from then on it doesn't tell what it took.
+/// A sink that keeps the bytes in memory, takes a piece at a time and fails at the calls that it is
+/// made to fail at. Bytes past its room are taken and dropped, and from then on it doesn't tell
+/// what it took.
 #[derive(Drop)]
 pub struct MemorySink {
     kept: Vec<u8>,

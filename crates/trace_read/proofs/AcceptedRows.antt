@@ -86,8 +86,12 @@ configured = refl
 -- Blanks, a remark, and CR at the lines' ends, also of the last line, which has no LF.
 read_one :
     trace_of
-    (codes
-    "order 18\r\nram 0x0 0x2000000000 0X40000000\n\n# remark\nbegin\n0\t H_ENTER 0x0 32 0x1001 0x3012\r")
+    (codes "order 18\r\n"
+    ++ codes "ram 0x0 0x2000000000 0X40000000\n"
+    ++ codes "\n"
+    ++ codes "# remark\n"
+    ++ codes "begin\n"
+    ++ codes "0\t H_ENTER 0x0 32 0x1001 0x3012\r")
     ≡ Ok
     (record {
       config =
@@ -124,8 +128,15 @@ read_one = refl
 -- The other run lines.
 read_each :
     trace_of
-    (codes
-    "cpus 2\nbegin\n1 load 0x5000 user\n0 store 1 priv\n1 fetch 2 user\n0 slbmte 3 4\n1 slbclear\ndump\n0 H_RESIZE_HPT_PREPARE 0 19\n")
+    (codes "cpus 2\n"
+    ++ codes "begin\n"
+    ++ codes "1 load 0x5000 user\n"
+    ++ codes "0 store 1 priv\n"
+    ++ codes "1 fetch 2 user\n"
+    ++ codes "0 slbmte 3 4\n"
+    ++ codes "1 slbclear\n"
+    ++ codes "dump\n"
+    ++ codes "0 H_RESIZE_HPT_PREPARE 0 19\n")
     ≡ Ok
     (record {
       config = record default_settings { cpus = 2 };

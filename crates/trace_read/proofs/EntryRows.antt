@@ -85,8 +85,10 @@ mixed_case = refl
 two_entries :
     trace_of
     (granted
-    (codes
-    "entry old 31 00000000000010010000000000003012\n# remark\nentry new 32 00000000000010030000000000004012\nbegin\n"))
+    (codes "entry old 31 00000000000010010000000000003012\n"
+    ++ codes "# remark\n"
+    ++ codes "entry new 32 00000000000010030000000000004012\n"
+    ++ codes "begin\n"))
     ≡ opening (entry 31 0x1001 0x3012 ∷ entry 32 0x1003 0x4012 ∷ [])
 unfolding config_on_literals entry
 two_entries = refl
@@ -135,8 +137,9 @@ refused_falling = refl
 refused_between :
     trace_of
     (granted
-    (codes
-    "entry old 30 00000000000010010000000000003012\nentry old 32 00000000000010010000000000003012\nentry old 31 00000000000010010000000000003012"))
+    (codes "entry old 30 00000000000010010000000000003012\n"
+    ++ codes "entry old 32 00000000000010010000000000003012\n"
+    ++ codes "entry old 31 00000000000010010000000000003012"))
     ≡ Err (5, whys.Entry)
 unfolding config_on_literals entry
 refused_between = refl

@@ -67,8 +67,10 @@ four_windows = refl
 -- Behind a grant and an entry.
 behind_an_entry :
     trace_of
-    (codes
-    "ram 0x0 0x2000000000 0x40000000\nentry old 0x20 00000000000010010000000000003192\nwindow 1 0x10000 2\nbegin\n")
+    (codes "ram 0x0 0x2000000000 0x40000000\n"
+    ++ codes "entry old 0x20 00000000000010010000000000003192\n"
+    ++ codes "window 1 0x10000 2\n"
+    ++ codes "begin\n")
     ≡ Ok
     (record {
       config =
@@ -170,8 +172,9 @@ refused_pages_word = refl
 -- Behind a window comes no entry, no grant and no other setting; behind `begin` comes no window.
 refused_entry_behind :
     trace_of
-    (codes
-    "ram 0x0 0x2000000000 0x40000000\nwindow 1 0 1\nentry old 0x20 00000000000010010000000000003192\n")
+    (codes "ram 0x0 0x2000000000 0x40000000\n"
+    ++ codes "window 1 0 1\n"
+    ++ codes "entry old 0x20 00000000000010010000000000003192\n")
     ≡ Err (3, whys.Place)
 unfolding windows_on_literals
 refused_entry_behind = refl

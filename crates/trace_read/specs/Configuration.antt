@@ -31,8 +31,8 @@ pub record Configuration : Type 0 where
   pub entries : List ImageEntry
   pub windows : List BusWindow
 
--- Orders are those of a trace, there are no more processors than may be, and the pool is the one that the
--- grants stand beside.
+-- Orders are those of a trace, there are no more processors than may be, and the pool is the one
+-- that the grants stand beside.
 pub record AreSettings
     (order limit cpus pool_base pool_order : ℕ)
     (granted : GrantedMemory)

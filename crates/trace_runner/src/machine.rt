@@ -37,7 +37,8 @@ impl Model for Machine {
 
     ghost Value = { AllStores };
 
-    ghost view = { λ m. machine_stores m.partition.granted.grants m.partition.memory m.cpus.items m.windows.items };
+    ghost view = { λ m.
+        machine_stores m.partition.granted.grants m.partition.memory m.cpus.items m.windows.items };
 
     ghost invariant = { λ m. IsMachine m.partition m.cpus.items m.windows.items };
 }

@@ -49,8 +49,21 @@ nine =
 
 the_ninth_is_full :
     text_from nine (replies_from [] ((small 1) ∷ []) nine)
-    ≡ codes
-    "4 0 H_ENTER 0 0x0 | 0x0.0.0.entered\n5 0 H_ENTER 0 0x1 | 0x0.1.0.taken 0x1.0.0.entered\n6 0 H_ENTER 0 0x2 | 0x0.1.0.taken 0x1.1.0.taken 0x2.0.0.entered\n7 0 H_ENTER 0 0x3 | 0x0.1.0.taken 0x1.1.0.taken 0x2.1.0.taken 0x3.0.0.entered\n8 0 H_ENTER 0 0x4 | 0x0.1.0.taken 0x1.1.0.taken 0x2.1.0.taken 0x3.1.0.taken 0x4.0.0.entered\n9 0 H_ENTER 0 0x5 | 0x0.1.0.taken 0x1.1.0.taken 0x2.1.0.taken 0x3.1.0.taken 0x4.1.0.taken 0x5.0.0.entered\n10 0 H_ENTER 0 0x6 | 0x0.1.0.taken 0x1.1.0.taken 0x2.1.0.taken 0x3.1.0.taken 0x4.1.0.taken 0x5.1.0.taken 0x6.0.0.entered\n11 0 H_ENTER 0 0x7 | 0x0.1.0.taken 0x1.1.0.taken 0x2.1.0.taken 0x3.1.0.taken 0x4.1.0.taken 0x5.1.0.taken 0x6.1.0.taken 0x7.0.0.entered\n12 0 H_ENTER -6 | 0x0.1.0.taken 0x1.1.0.taken 0x2.1.0.taken 0x3.1.0.taken 0x4.1.0.taken 0x5.1.0.taken 0x6.1.0.taken 0x7.1.0.taken\n"
+    ≡ codes "4 0 H_ENTER 0 0x0 | 0x0.0.0.entered\n"
+    ++ codes "5 0 H_ENTER 0 0x1 | 0x0.1.0.taken 0x1.0.0.entered\n"
+    ++ codes "6 0 H_ENTER 0 0x2 | 0x0.1.0.taken 0x1.1.0.taken 0x2.0.0.entered\n"
+    ++ codes "7 0 H_ENTER 0 0x3 | 0x0.1.0.taken 0x1.1.0.taken 0x2.1.0.taken"
+    ++ codes " 0x3.0.0.entered\n"
+    ++ codes "8 0 H_ENTER 0 0x4 | 0x0.1.0.taken 0x1.1.0.taken 0x2.1.0.taken 0x3.1.0.taken"
+    ++ codes " 0x4.0.0.entered\n"
+    ++ codes "9 0 H_ENTER 0 0x5 | 0x0.1.0.taken 0x1.1.0.taken 0x2.1.0.taken 0x3.1.0.taken"
+    ++ codes " 0x4.1.0.taken 0x5.0.0.entered\n"
+    ++ codes "10 0 H_ENTER 0 0x6 | 0x0.1.0.taken 0x1.1.0.taken 0x2.1.0.taken 0x3.1.0.taken"
+    ++ codes " 0x4.1.0.taken 0x5.1.0.taken 0x6.0.0.entered\n"
+    ++ codes "11 0 H_ENTER 0 0x7 | 0x0.1.0.taken 0x1.1.0.taken 0x2.1.0.taken 0x3.1.0.taken"
+    ++ codes " 0x4.1.0.taken 0x5.1.0.taken 0x6.1.0.taken 0x7.0.0.entered\n"
+    ++ codes "12 0 H_ENTER -6 | 0x0.1.0.taken 0x1.1.0.taken 0x2.1.0.taken 0x3.1.0.taken"
+    ++ codes " 0x4.1.0.taken 0x5.1.0.taken 0x6.1.0.taken 0x7.1.0.taken\n"
 unfolding digits nine text_from head_text code_text run_on line_result hcall_plan is_quiet hcall_of
     row_of plan_run trial_run candidates suits_grants h_enter_plan machine_range mte_refusal
     tests_of_words no_slots slots_after slot_of_words segment_of new_processor empty_cache
@@ -69,8 +82,10 @@ exact =
 
 one_is_tried :
     text_from exact (replies_from [] ((small 1) ∷ []) exact)
-    ≡ codes
-    "4 0 H_ENTER 0 0x7 | 0x7.0.0.entered\n5 0 H_ENTER -6 | 0x7.1.0.taken\n6 0 H_ENTER -4\n7 0 H_READ -4\n"
+    ≡ codes "4 0 H_ENTER 0 0x7 | 0x7.0.0.entered\n"
+    ++ codes "5 0 H_ENTER -6 | 0x7.1.0.taken\n"
+    ++ codes "6 0 H_ENTER -4\n"
+    ++ codes "7 0 H_READ -4\n"
 unfolding digits exact text_from head_text code_text run_on line_result hcall_plan is_quiet hcall_of
     row_of plan_run trial_run candidates suits_grants h_enter_plan h_read_plan machine_range
     mte_refusal tests_of_words no_slots slots_after slot_of_words segment_of new_processor
@@ -94,8 +109,14 @@ placed =
 
 what_suits_the_grants :
     text_from placed (replies_from [] ((small 1) ∷ []) placed)
-    ≡ codes
-    "4 0 H_ENTER 0 0x0 | 0x0.0.0.entered\n5 0 H_ENTER -4\n6 0 H_ENTER 0 0x1 | 0x0.1.0.taken 0x1.0.0.entered\n7 0 H_ENTER -4\n8 0 H_ENTER 0 0x8 | 0x8.0.0.entered\n9 0 H_READ 0 0x1001 0x3012 | 0x8.1.0.read\n10 0 H_ENTER -4\n11 0 H_ENTER -4\n"
+    ≡ codes "4 0 H_ENTER 0 0x0 | 0x0.0.0.entered\n"
+    ++ codes "5 0 H_ENTER -4\n"
+    ++ codes "6 0 H_ENTER 0 0x1 | 0x0.1.0.taken 0x1.0.0.entered\n"
+    ++ codes "7 0 H_ENTER -4\n"
+    ++ codes "8 0 H_ENTER 0 0x8 | 0x8.0.0.entered\n"
+    ++ codes "9 0 H_READ 0 0x1001 0x3012 | 0x8.1.0.read\n"
+    ++ codes "10 0 H_ENTER -4\n"
+    ++ codes "11 0 H_ENTER -4\n"
 unfolding digits placed text_from head_text code_text run_on line_result hcall_plan is_quiet
     hcall_of row_of plan_run trial_run candidates suits_grants h_enter_plan h_read_plan
     machine_range mte_refusal tests_of_words no_slots slots_after slot_of_words segment_of
@@ -116,8 +137,11 @@ tested =
 
 removed_once :
     text_from tested (replies_from [] ((small 1) ∷ []) tested)
-    ≡ codes
-    "4 0 H_ENTER 0 0x0 | 0x0.0.0.entered\n5 0 H_REMOVE -7 | 0x0.1.0.notfound\n6 0 H_REMOVE -7 | 0x0.1.0.notfound\n7 0 H_REMOVE 0 0x1011 0x3012 | 0x0.1.0.removed\n8 0 H_REMOVE -7 | 0x0.2.0.notfound\n"
+    ≡ codes "4 0 H_ENTER 0 0x0 | 0x0.0.0.entered\n"
+    ++ codes "5 0 H_REMOVE -7 | 0x0.1.0.notfound\n"
+    ++ codes "6 0 H_REMOVE -7 | 0x0.1.0.notfound\n"
+    ++ codes "7 0 H_REMOVE 0 0x1011 0x3012 | 0x0.1.0.removed\n"
+    ++ codes "8 0 H_REMOVE -7 | 0x0.2.0.notfound\n"
 unfolding digits tested text_from head_text code_text run_on line_result hcall_plan is_quiet
     hcall_of row_of plan_run trial_run candidates suits_grants h_enter_plan h_remove_plan
     machine_range mte_refusal tests_of_words no_slots slots_after slot_of_words segment_of
@@ -139,8 +163,13 @@ protected =
 
 by_name_and_number :
     text_from protected (replies_from [] ((small 1) ∷ []) protected)
-    ≡ codes
-    "4 0 H_ENTER 0 0x0 | 0x0.0.0.entered\n5 0 H_PROTECT 0 | 0x0.1.0.protected\n6 0 H_READ 0 0x1001 0xb000000000003013 0x0 0x0 0x0 0x0 0x0 0x0 | 0x0.2.0.read 0x1.0.0.read 0x2.0.0.read 0x3.0.0.read\n7 0 hcall -2\n8 0 hcall 0 0x1001 0xb000000000003013 | 0x0.2.0.removed\n9 0 H_CLEAR_REF -7 | 0x0.3.0.notfound\n"
+    ≡ codes "4 0 H_ENTER 0 0x0 | 0x0.0.0.entered\n"
+    ++ codes "5 0 H_PROTECT 0 | 0x0.1.0.protected\n"
+    ++ codes "6 0 H_READ 0 0x1001 0xb000000000003013 0x0 0x0 0x0 0x0 0x0 0x0 | 0x0.2.0.read"
+    ++ codes " 0x1.0.0.read 0x2.0.0.read 0x3.0.0.read\n"
+    ++ codes "7 0 hcall -2\n"
+    ++ codes "8 0 hcall 0 0x1001 0xb000000000003013 | 0x0.2.0.removed\n"
+    ++ codes "9 0 H_CLEAR_REF -7 | 0x0.3.0.notfound\n"
 unfolding digits protected text_from head_text code_text run_on line_result hcall_plan is_quiet
     hcall_of row_of plan_run trial_run candidates suits_grants h_enter_plan h_remove_plan
     h_protect_plan h_read_plan h_clear_ref_plan machine_range mte_refusal tests_of_words no_slots
@@ -166,8 +195,10 @@ bulk =
 
 bulk_stops_at_the_third :
     text_from bulk (replies_from [] ((small 1) ∷ []) bulk)
-    ≡ codes
-    "4 0 H_ENTER 0 0x0 | 0x0.0.0.entered\n5 0 H_BULK_REMOVE -4 0x8c00000000000000 0x0 0x9000000000000001 0x0 0xa300000000000002 0x0 0x4000000000000000 0x0 | 0x0.1.3.removed 0x1.0.0.notfound\n"
+    ≡ codes "4 0 H_ENTER 0 0x0 | 0x0.0.0.entered\n"
+    ++ codes "5 0 H_BULK_REMOVE -4 0x8c00000000000000 0x0 0x9000000000000001 0x0"
+    ++ codes " 0xa300000000000002 0x0 0x4000000000000000 0x0 | 0x0.1.3.removed"
+    ++ codes " 0x1.0.0.notfound\n"
 unfolding digits bulk text_from head_text code_text run_on line_result hcall_plan is_quiet hcall_of
     row_of plan_run trial_run candidates suits_grants h_enter_plan h_bulk_remove_plan bulk_calls
     bulk_told asked_by machine_range mte_refusal tests_of_words no_slots slots_after slot_of_words
@@ -190,8 +221,17 @@ nowhere =
 
 nothing_there :
     text_from nowhere (replies_from [] ((small 1) ∷ []) nowhere)
-    ≡ codes
-    "4 0 load nosegment\n5 0 slbmte refused\n6 0 load nosegment\n7 0 slbmte ok\n8 0 load nopage walk | 0x0.0.0.nomatch 0x1.0.0.nomatch 0x2.0.0.nomatch 0x3.0.0.nomatch 0x4.0.0.nomatch 0x5.0.0.nomatch 0x6.0.0.nomatch 0x7.0.0.nomatch 0x3ff8.0.0.nomatch 0x3ff9.0.0.nomatch 0x3ffa.0.0.nomatch 0x3ffb.0.0.nomatch 0x3ffc.0.0.nomatch 0x3ffd.0.0.nomatch 0x3ffe.0.0.nomatch 0x3fff.0.0.nomatch\n9 0 slbclear ok\n10 0 load nosegment\n"
+    ≡ codes "4 0 load nosegment\n"
+    ++ codes "5 0 slbmte refused\n"
+    ++ codes "6 0 load nosegment\n"
+    ++ codes "7 0 slbmte ok\n"
+    ++ codes "8 0 load nopage walk | 0x0.0.0.nomatch 0x1.0.0.nomatch 0x2.0.0.nomatch"
+    ++ codes " 0x3.0.0.nomatch 0x4.0.0.nomatch 0x5.0.0.nomatch 0x6.0.0.nomatch"
+    ++ codes " 0x7.0.0.nomatch 0x3ff8.0.0.nomatch 0x3ff9.0.0.nomatch 0x3ffa.0.0.nomatch"
+    ++ codes " 0x3ffb.0.0.nomatch 0x3ffc.0.0.nomatch 0x3ffd.0.0.nomatch 0x3ffe.0.0.nomatch"
+    ++ codes " 0x3fff.0.0.nomatch\n"
+    ++ codes "9 0 slbclear ok\n"
+    ++ codes "10 0 load nosegment\n"
 unfolding digits nowhere text_from head_text code_text run_on line_result hcall_plan is_quiet
     hcall_of row_of plan_run trial_run candidates suits_grants h_enter_plan machine_range
     mte_refusal tests_of_words no_slots slots_after slot_of_words segment_of new_processor
@@ -212,8 +252,13 @@ second =
 
 in_the_second_group :
     text_from second (replies_from [] ((small 1) ∷ []) second)
-    ≡ codes
-    "4 0 slbmte ok\n5 0 H_ENTER 0 0x0 | 0x0.0.0.entered\n6 0 H_ENTER 0 0x1 | 0x1.0.0.entered\n7 0 fetch at 0x2000003000 walk | 0x3ff8.0.0.nomatch 0x3ff9.0.0.nomatch 0x3ffa.0.0.nomatch 0x3ffb.0.0.nomatch 0x3ffc.0.0.nomatch 0x3ffd.0.0.nomatch 0x3ffe.0.0.nomatch 0x3fff.0.0.nomatch 0x0.1.0.nomatch 0x1.1.0.at\n8 0 fetch at 0x2000003000 hit | 0x1.1.2.at\n"
+    ≡ codes "4 0 slbmte ok\n"
+    ++ codes "5 0 H_ENTER 0 0x0 | 0x0.0.0.entered\n"
+    ++ codes "6 0 H_ENTER 0 0x1 | 0x1.0.0.entered\n"
+    ++ codes "7 0 fetch at 0x2000003000 walk | 0x3ff8.0.0.nomatch 0x3ff9.0.0.nomatch"
+    ++ codes " 0x3ffa.0.0.nomatch 0x3ffb.0.0.nomatch 0x3ffc.0.0.nomatch 0x3ffd.0.0.nomatch"
+    ++ codes " 0x3ffe.0.0.nomatch 0x3fff.0.0.nomatch 0x0.1.0.nomatch 0x1.1.0.at\n"
+    ++ codes "8 0 fetch at 0x2000003000 hit | 0x1.1.2.at\n"
 unfolding digits second text_from head_text code_text run_on line_result hcall_plan is_quiet
     hcall_of row_of plan_run trial_run candidates suits_grants h_enter_plan machine_range
     mte_refusal tests_of_words no_slots slots_after slot_of_words segment_of new_processor

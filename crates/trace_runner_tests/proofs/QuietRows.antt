@@ -59,8 +59,15 @@ shown =
 
 dumped :
     text_from shown (replies_from [] ((small 1) ∷ []) shown)
-    ≡ codes
-    "4 0 slbmte ok\n5 dump table 0 order 18 place 0x1000000000 entries 0\n6 0 H_ENTER 0 0x1 | 0x1.0.0.entered\n7 0 H_ENTER 0 0xe | 0xe.0.0.entered\n8 0 store at 0x2000003000 walk | 0x0.0.0.nomatch 0x1.1.0.at\n9 dump table 0 order 18 place 0x1000000000 entries 2\n 0x1 0x1001 0x3192 1\n 0xe 0x5011 0x6092 1\n10 0 store at 0x2000003000 hit | 0x1.1.3.at\n"
+    ≡ codes "4 0 slbmte ok\n"
+    ++ codes "5 dump table 0 order 18 place 0x1000000000 entries 0\n"
+    ++ codes "6 0 H_ENTER 0 0x1 | 0x1.0.0.entered\n"
+    ++ codes "7 0 H_ENTER 0 0xe | 0xe.0.0.entered\n"
+    ++ codes "8 0 store at 0x2000003000 walk | 0x0.0.0.nomatch 0x1.1.0.at\n"
+    ++ codes "9 dump table 0 order 18 place 0x1000000000 entries 2\n"
+    ++ codes " 0x1 0x1001 0x3192 1\n"
+    ++ codes " 0xe 0x5011 0x6092 1\n"
+    ++ codes "10 0 store at 0x2000003000 hit | 0x1.1.3.at\n"
 unfolding digits shown text_from head_text code_text entry_text dump_head table_text run_on
     line_result run_quiet_line shown_of hcall_plan is_quiet hcall_of row_of plan_run trial_run
     candidates suits_grants h_enter_plan machine_range mte_refusal tests_of_words no_slots
@@ -98,8 +105,14 @@ asked =
 
 resizes_refused :
     text_from asked (replies_from [] (tight ∷ []) asked)
-    ≡ codes
-    "5 0 H_RESIZE_HPT_COMMIT 2\n6 0 H_RESIZE_HPT_PREPARE -4\n7 0 H_RESIZE_HPT_PREPARE -16\n8 0 H_RESIZE_HPT_PREPARE -9\n9 0 H_RESIZE_HPT_PREPARE 0\n10 0 H_RESIZE_HPT_PREPARE 0\n11 0 H_RESIZE_HPT_COMMIT 2\n12 0 H_RESIZE_HPT_COMMIT -4\n"
+    ≡ codes "5 0 H_RESIZE_HPT_COMMIT 2\n"
+    ++ codes "6 0 H_RESIZE_HPT_PREPARE -4\n"
+    ++ codes "7 0 H_RESIZE_HPT_PREPARE -16\n"
+    ++ codes "8 0 H_RESIZE_HPT_PREPARE -9\n"
+    ++ codes "9 0 H_RESIZE_HPT_PREPARE 0\n"
+    ++ codes "10 0 H_RESIZE_HPT_PREPARE 0\n"
+    ++ codes "11 0 H_RESIZE_HPT_COMMIT 2\n"
+    ++ codes "12 0 H_RESIZE_HPT_COMMIT -4\n"
 unfolding digits tight asked text_from head_text code_text run_on run_quiet_line run_resize is_quiet
     hcall_of row_of prepare_result commit_result outcome_of_prepare outcome_of_commit lowest_place
     multiples taken_with taken_without
@@ -125,8 +138,17 @@ resized =
 
 resizes_in_two_calls :
     text_from resized (replies_from [] ((small 1) ∷ []) resized)
-    ≡ codes
-    "4 0 H_ENTER 0 0x0 | 0x0.0.0.entered\n5 0 H_ENTER 0 0x8 | 0x8.0.0.entered\n6 0 H_ENTER 0 0x1 | 0x1.0.0.entered\n7 0 H_RESIZE_HPT_PREPARE 9900\n8 0 H_RESIZE_HPT_COMMIT 1\n9 0 H_RESIZE_HPT_PREPARE 0\n10 0 H_RESIZE_HPT_COMMIT 0\n11 0 H_RESIZE_HPT_COMMIT 2\n12 0 H_READ -4\n13 dump table 1 order 19 place 0x1000080000 entries 1\n 0x4000 0x801011 0x3192 0\n"
+    ≡ codes "4 0 H_ENTER 0 0x0 | 0x0.0.0.entered\n"
+    ++ codes "5 0 H_ENTER 0 0x8 | 0x8.0.0.entered\n"
+    ++ codes "6 0 H_ENTER 0 0x1 | 0x1.0.0.entered\n"
+    ++ codes "7 0 H_RESIZE_HPT_PREPARE 9900\n"
+    ++ codes "8 0 H_RESIZE_HPT_COMMIT 1\n"
+    ++ codes "9 0 H_RESIZE_HPT_PREPARE 0\n"
+    ++ codes "10 0 H_RESIZE_HPT_COMMIT 0\n"
+    ++ codes "11 0 H_RESIZE_HPT_COMMIT 2\n"
+    ++ codes "12 0 H_READ -4\n"
+    ++ codes "13 dump table 1 order 19 place 0x1000080000 entries 1\n"
+    ++ codes " 0x4000 0x801011 0x3192 0\n"
 unfolding digits resized dump_head table_text entry_text shown_of rehashed_states entry_at text_from
     head_text code_text run_on line_result run_quiet_line run_resize hcall_plan is_quiet hcall_of
     row_of plan_run trial_run candidates suits_grants h_enter_plan h_read_plan machine_range

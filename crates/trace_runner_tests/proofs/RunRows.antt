@@ -50,8 +50,14 @@ stored =
 
 a_store_shows :
     text_from stored (replies_from [] ((small 1) ∷ []) stored)
-    ≡ codes
-    "4 0 slbmte ok\n5 0 H_ENTER 0 0x0 | 0x0.0.0.entered\n6 0 store denied walk | 0x0.1.0.denied\n7 0 H_PROTECT 0 | 0x0.1.0.protected\n8 0 store at 0x2000003000 walk | 0x0.2.0.at\n9 0 H_CLEAR_MOD 0 0x3192 | 0x0.2.3.was\n10 0 store at 0x2000003000 walk | 0x0.3.2.at\n11 0 H_REMOVE 0 0x1001 0x3192 | 0x0.3.3.removed\n"
+    ≡ codes "4 0 slbmte ok\n"
+    ++ codes "5 0 H_ENTER 0 0x0 | 0x0.0.0.entered\n"
+    ++ codes "6 0 store denied walk | 0x0.1.0.denied\n"
+    ++ codes "7 0 H_PROTECT 0 | 0x0.1.0.protected\n"
+    ++ codes "8 0 store at 0x2000003000 walk | 0x0.2.0.at\n"
+    ++ codes "9 0 H_CLEAR_MOD 0 0x3192 | 0x0.2.3.was\n"
+    ++ codes "10 0 store at 0x2000003000 walk | 0x0.3.2.at\n"
+    ++ codes "11 0 H_REMOVE 0 0x1001 0x3192 | 0x0.3.3.removed\n"
 unfolding digits stored text_from head_text code_text run_on line_result hcall_plan is_quiet
     hcall_of row_of plan_run trial_run candidates suits_grants h_enter_plan h_remove_plan
     h_protect_plan h_clear_mod_plan machine_range mte_refusal tests_of_words no_slots slots_after
@@ -77,8 +83,15 @@ masked =
 
 masks_refuse :
     text_from masked (replies_from [] ((small 1) ∷ []) masked)
-    ≡ codes
-    "4 0 slbmte ok\n5 0 H_ENTER 0 0x0 | 0x0.0.0.entered\n6 0 amr ok\n7 0 load at 0x2000003000 walk | 0x0.1.0.at\n8 0 store masked amr hit | 0x0.1.2.masked\n9 0 iamr ok\n10 0 fetch masked iamr hit | 0x0.1.2.masked\n11 0 H_PROTECT 0 | 0x0.1.2.protected\n12 0 store at 0x2000003000 walk | 0x0.2.2.at\n"
+    ≡ codes "4 0 slbmte ok\n"
+    ++ codes "5 0 H_ENTER 0 0x0 | 0x0.0.0.entered\n"
+    ++ codes "6 0 amr ok\n"
+    ++ codes "7 0 load at 0x2000003000 walk | 0x0.1.0.at\n"
+    ++ codes "8 0 store masked amr hit | 0x0.1.2.masked\n"
+    ++ codes "9 0 iamr ok\n"
+    ++ codes "10 0 fetch masked iamr hit | 0x0.1.2.masked\n"
+    ++ codes "11 0 H_PROTECT 0 | 0x0.1.2.protected\n"
+    ++ codes "12 0 store at 0x2000003000 walk | 0x0.2.2.at\n"
 unfolding digits masked text_from head_text code_text run_on line_result hcall_plan is_quiet
     hcall_of row_of plan_run trial_run candidates suits_grants h_enter_plan h_protect_plan
     machine_range mte_refusal tests_of_words no_slots slots_after slot_of_words segment_of
@@ -102,8 +115,14 @@ shared =
 
 a_line_is_gone :
     text_from shared (replies_from [] ((small 2) ∷ []) shared)
-    ≡ codes
-    "5 0 slbmte ok\n6 0 H_ENTER 0 0x0 | 0x0.0.0.entered\n7 0 load at 0x2000003000 walk | 0x0.1.0.at\n8 0 load at 0x2000003000 hit | 0x0.1.2.at\n9 1 H_PROTECT 0 | 0x0.1.2.protected\n10 0 load at 0x2000003000 walk | 0x0.2.2.at\n11 0 load at 0x2000003000 hit | 0x0.2.2.at\n12 1 load nosegment\n"
+    ≡ codes "5 0 slbmte ok\n"
+    ++ codes "6 0 H_ENTER 0 0x0 | 0x0.0.0.entered\n"
+    ++ codes "7 0 load at 0x2000003000 walk | 0x0.1.0.at\n"
+    ++ codes "8 0 load at 0x2000003000 hit | 0x0.1.2.at\n"
+    ++ codes "9 1 H_PROTECT 0 | 0x0.1.2.protected\n"
+    ++ codes "10 0 load at 0x2000003000 walk | 0x0.2.2.at\n"
+    ++ codes "11 0 load at 0x2000003000 hit | 0x0.2.2.at\n"
+    ++ codes "12 1 load nosegment\n"
 unfolding digits shared text_from head_text code_text run_on line_result hcall_plan is_quiet
     hcall_of row_of plan_run trial_run candidates suits_grants h_enter_plan h_protect_plan
     machine_range mte_refusal tests_of_words no_slots slots_after slot_of_words segment_of
@@ -125,8 +144,13 @@ linux =
 
 user_is_denied :
     text_from linux (replies_from [] ((small 1) ∷ []) linux)
-    ≡ codes
-    "4 0 slbmte ok\n5 0 H_ENTER 0 0x0 | 0x0.0.0.entered\n6 0 store at 0x2000003000 walk | 0x0.1.3.at\n7 0 load denied hit | 0x0.1.3.denied\n8 0 H_PROTECT 0 | 0x0.1.3.protected\n9 0 H_BULK_REMOVE 0 0x8e00000000000000 0x1000 0xc000000000000000 0x0 0x0 0x0 0x0 0x0 | 0x0.2.3.removed\n"
+    ≡ codes "4 0 slbmte ok\n"
+    ++ codes "5 0 H_ENTER 0 0x0 | 0x0.0.0.entered\n"
+    ++ codes "6 0 store at 0x2000003000 walk | 0x0.1.3.at\n"
+    ++ codes "7 0 load denied hit | 0x0.1.3.denied\n"
+    ++ codes "8 0 H_PROTECT 0 | 0x0.1.3.protected\n"
+    ++ codes "9 0 H_BULK_REMOVE 0 0x8e00000000000000 0x1000 0xc000000000000000 0x0 0x0 0x0"
+    ++ codes " 0x0 0x0 | 0x0.2.3.removed\n"
 unfolding digits linux text_from head_text code_text run_on line_result hcall_plan is_quiet hcall_of
     row_of plan_run trial_run candidates suits_grants h_enter_plan h_protect_plan h_bulk_remove_plan
     bulk_calls bulk_told asked_by machine_range mte_refusal tests_of_words no_slots slots_after
@@ -160,8 +184,28 @@ five =
 
 the_fifth_evicts :
     text_from five (replies_from [] ((small 1) ∷ []) five)
-    ≡ codes
-    "4 0 slbmte ok\n5 0 slbmte ok\n6 0 slbmte ok\n7 0 slbmte ok\n8 0 slbmte ok\n9 0 H_ENTER 0 0x0 | 0x0.0.0.entered\n10 0 H_ENTER 0 0x1 | 0x0.1.0.taken 0x1.0.0.entered\n11 0 H_ENTER 0 0x2 | 0x0.1.0.taken 0x1.1.0.taken 0x2.0.0.entered\n12 0 H_ENTER 0 0x3 | 0x0.1.0.taken 0x1.1.0.taken 0x2.1.0.taken 0x3.0.0.entered\n13 0 H_ENTER 0 0x4 | 0x0.1.0.taken 0x1.1.0.taken 0x2.1.0.taken 0x3.1.0.taken 0x4.0.0.entered\n14 0 load at 0x2000003000 walk | 0x0.1.0.at\n15 0 load at 0x2000003000 walk | 0x0.1.2.nomatch 0x1.1.0.at\n16 0 load at 0x2000003000 walk | 0x0.1.2.nomatch 0x1.1.2.nomatch 0x2.1.0.at\n17 0 load at 0x2000003000 walk | 0x0.1.2.nomatch 0x1.1.2.nomatch 0x2.1.2.nomatch 0x3.1.0.at\n18 0 load at 0x2000003000 walk | 0x0.1.2.nomatch 0x1.1.2.nomatch 0x2.1.2.nomatch 0x3.1.2.nomatch 0x4.1.0.at\n19 0 load at 0x2000003000 walk | 0x0.1.2.at\n20 0 load at 0x2000003000 hit | 0x4.1.2.at\n21 0 load at 0x2000003000 walk | 0x0.1.2.nomatch 0x1.1.2.at\n"
+    ≡ codes "4 0 slbmte ok\n"
+    ++ codes "5 0 slbmte ok\n"
+    ++ codes "6 0 slbmte ok\n"
+    ++ codes "7 0 slbmte ok\n"
+    ++ codes "8 0 slbmte ok\n"
+    ++ codes "9 0 H_ENTER 0 0x0 | 0x0.0.0.entered\n"
+    ++ codes "10 0 H_ENTER 0 0x1 | 0x0.1.0.taken 0x1.0.0.entered\n"
+    ++ codes "11 0 H_ENTER 0 0x2 | 0x0.1.0.taken 0x1.1.0.taken 0x2.0.0.entered\n"
+    ++ codes "12 0 H_ENTER 0 0x3 | 0x0.1.0.taken 0x1.1.0.taken 0x2.1.0.taken"
+    ++ codes " 0x3.0.0.entered\n"
+    ++ codes "13 0 H_ENTER 0 0x4 | 0x0.1.0.taken 0x1.1.0.taken 0x2.1.0.taken 0x3.1.0.taken"
+    ++ codes " 0x4.0.0.entered\n"
+    ++ codes "14 0 load at 0x2000003000 walk | 0x0.1.0.at\n"
+    ++ codes "15 0 load at 0x2000003000 walk | 0x0.1.2.nomatch 0x1.1.0.at\n"
+    ++ codes "16 0 load at 0x2000003000 walk | 0x0.1.2.nomatch 0x1.1.2.nomatch 0x2.1.0.at\n"
+    ++ codes "17 0 load at 0x2000003000 walk | 0x0.1.2.nomatch 0x1.1.2.nomatch"
+    ++ codes " 0x2.1.2.nomatch 0x3.1.0.at\n"
+    ++ codes "18 0 load at 0x2000003000 walk | 0x0.1.2.nomatch 0x1.1.2.nomatch"
+    ++ codes " 0x2.1.2.nomatch 0x3.1.2.nomatch 0x4.1.0.at\n"
+    ++ codes "19 0 load at 0x2000003000 walk | 0x0.1.2.at\n"
+    ++ codes "20 0 load at 0x2000003000 hit | 0x4.1.2.at\n"
+    ++ codes "21 0 load at 0x2000003000 walk | 0x0.1.2.nomatch 0x1.1.2.at\n"
 unfolding digits five text_from head_text code_text run_on line_result hcall_plan is_quiet hcall_of
     row_of plan_run trial_run candidates suits_grants h_enter_plan machine_range mte_refusal
     tests_of_words no_slots slots_after slot_of_words segment_of new_processor empty_cache
@@ -180,8 +224,9 @@ large =
 
 in_16_mb :
     text_from large (replies_from [] ((small 1) ∷ []) large)
-    ≡ codes
-    "4 0 slbmte ok\n5 0 H_ENTER 0 0x0 | 0x0.0.0.entered\n6 0 load at 0x2003123456 walk | 0x0.1.0.at\n"
+    ≡ codes "4 0 slbmte ok\n"
+    ++ codes "5 0 H_ENTER 0 0x0 | 0x0.0.0.entered\n"
+    ++ codes "6 0 load at 0x2003123456 walk | 0x0.1.0.at\n"
 unfolding digits large text_from head_text code_text run_on line_result hcall_plan is_quiet hcall_of
     row_of plan_run trial_run candidates suits_grants h_enter_plan machine_range mte_refusal
     tests_of_words no_slots slots_after slot_of_words segment_of new_processor empty_cache
@@ -199,8 +244,9 @@ wide =
 
 in_1_tb :
     text_from wide (replies_from [] ((small 1) ∷ []) wide)
-    ≡ codes
-    "4 0 slbmte ok\n5 0 H_ENTER 0 0x0 | 0x0.0.0.entered\n6 0 load at 0x2000003000 walk | 0x0.1.0.at\n"
+    ≡ codes "4 0 slbmte ok\n"
+    ++ codes "5 0 H_ENTER 0 0x0 | 0x0.0.0.entered\n"
+    ++ codes "6 0 load at 0x2000003000 walk | 0x0.1.0.at\n"
 unfolding digits wide text_from head_text code_text run_on line_result hcall_plan is_quiet hcall_of
     row_of plan_run trial_run candidates suits_grants h_enter_plan machine_range mte_refusal
     tests_of_words no_slots slots_after slot_of_words segment_of new_processor empty_cache

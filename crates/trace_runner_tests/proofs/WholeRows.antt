@@ -70,8 +70,11 @@ whole = record {
 
 a_whole_trace :
     text_of whole (serial_replies whole)
-    ≡ codes
-    "4 0 slbmte ok\n5 0 H_ENTER 0 0x20 | 0x20.0.0.entered\n6 0 store denied walk | 0x20.1.0.denied\n7 0 H_PROTECT 0 | 0x20.1.0.protected\n8 0 store at 0x2000003000 walk | 0x20.2.0.at\n"
+    ≡ codes "4 0 slbmte ok\n"
+    ++ codes "5 0 H_ENTER 0 0x20 | 0x20.0.0.entered\n"
+    ++ codes "6 0 store denied walk | 0x20.1.0.denied\n"
+    ++ codes "7 0 H_PROTECT 0 | 0x20.1.0.protected\n"
+    ++ codes "8 0 store at 0x2000003000 walk | 0x20.2.0.at\n"
 unfolding digits whole page_table opening_memory empty_states lowest_place multiples taken_with
     text_from head_text code_text run_on line_result hcall_plan is_quiet hcall_of row_of plan_run
     trial_run candidates suits_grants h_enter_plan h_remove_plan h_protect_plan h_clear_mod_plan
@@ -93,8 +96,13 @@ far = record whole {
 
 the_last_group :
     text_of far (serial_replies far)
-    ≡ codes
-    "4 0 slbmte ok\n5 0 H_ENTER 0 0x3fd8 | 0x3fd8.0.0.entered\n6 0 load at 0x2000003000 walk | 0x20.0.0.nomatch 0x21.0.0.nomatch 0x22.0.0.nomatch 0x23.0.0.nomatch 0x24.0.0.nomatch 0x25.0.0.nomatch 0x26.0.0.nomatch 0x27.0.0.nomatch 0x3fd8.1.0.at\n7 dump table 0 order 18 place 0x1000000000 entries 1\n 0x3fd8 0x1003 0x3112 1\n"
+    ≡ codes "4 0 slbmte ok\n"
+    ++ codes "5 0 H_ENTER 0 0x3fd8 | 0x3fd8.0.0.entered\n"
+    ++ codes "6 0 load at 0x2000003000 walk | 0x20.0.0.nomatch 0x21.0.0.nomatch"
+    ++ codes " 0x22.0.0.nomatch 0x23.0.0.nomatch 0x24.0.0.nomatch 0x25.0.0.nomatch"
+    ++ codes " 0x26.0.0.nomatch 0x27.0.0.nomatch 0x3fd8.1.0.at\n"
+    ++ codes "7 dump table 0 order 18 place 0x1000000000 entries 1\n"
+    ++ codes " 0x3fd8 0x1003 0x3112 1\n"
 unfolding digits far whole dump_head table_text entry_text shown_of run_quiet_line page_table
     opening_memory empty_states lowest_place multiples taken_with text_from head_text code_text
     run_on line_result hcall_plan is_quiet hcall_of row_of plan_run trial_run candidates
@@ -121,8 +129,10 @@ opened = record whole {
 
 an_opening_entry :
     text_of opened (serial_replies opened)
-    ≡ codes
-    "5 0 slbmte ok\n6 0 load at 0x2000003000 walk | 0x20.0.3.at\n7 dump table 0 order 18 place 0x1000000000 entries 1\n 0x20 0x1001 0x3192 0\n"
+    ≡ codes "5 0 slbmte ok\n"
+    ++ codes "6 0 load at 0x2000003000 walk | 0x20.0.3.at\n"
+    ++ codes "7 dump table 0 order 18 place 0x1000000000 entries 1\n"
+    ++ codes " 0x20 0x1001 0x3192 0\n"
 unfolding digits opened whole dump_head table_text entry_text shown_of run_quiet_line page_table
     opening_memory empty_states lowest_place multiples taken_with text_from head_text code_text
     run_on line_result hcall_plan is_quiet hcall_of row_of plan_run trial_run candidates

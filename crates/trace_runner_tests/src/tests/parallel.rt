@@ -174,7 +174,8 @@ begin
 ";
     assert_eq!(rt;
         together(&rt, rt.alloc(), input, &gate)?.as_str(),
-        "5 0 H_BULK_REMOVE 0 0x9000000000000020 0x0 0x8000000000000021 0x0 0xc000000000000000 0x0 0x0 0x0 | 0x20.0.0.notfound 0x21.1.0.removed
+        "5 0 H_BULK_REMOVE 0 0x9000000000000020 0x0 0x8000000000000021 0x0 \
+         0xc000000000000000 0x0 0x0 0x0 | 0x20.0.0.notfound 0x21.1.0.removed
 6 1 H_ENTER 0 0x21 | 0x21.0.0.entered
 "
     );

@@ -92,7 +92,8 @@ begin
             hold((Place::Before, 6), (Place::Step, 5), true),
             hold((Place::Step, 5), (Place::After, 6), true),
         ],
-        text: "5 1 H_BULK_REMOVE 0 0x9000000000000020 0x0 0x8000000000000021 0x0 0xc000000000000000 0x0 0x0 0x0 | 0x20.0.0.notfound 0x21.1.0.removed
+        text: "5 1 H_BULK_REMOVE 0 0x9000000000000020 0x0 0x8000000000000021 0x0 \
+            0xc000000000000000 0x0 0x0 0x0 | 0x20.0.0.notfound 0x21.1.0.removed
 6 2 H_ENTER 0 0x21 | 0x21.0.0.entered
 ",
         calls: &[

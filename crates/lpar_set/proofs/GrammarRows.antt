@@ -1,6 +1,6 @@
 -- The definitions on worked inputs: a set that is accepted, and each reason that a set adds.
 use Rattle.std.specs.Prelude.{codes, true, false}
-use Rattle.std.proofs.Common.{◌≡◌, ℕ, [], ◌∷◌, refl, Ok, Err}
+use Rattle.std.proofs.Common.{◌≡◌, ℕ, [], ◌∷◌, ◌++◌, refl, Ok, Err}
 use Rattle.frame_grants.specs.Grants.{add_refusal, refusals as grant_refusals, with_grant}
 use Rattle.hpt_pool.specs.Pool.{lowest_place, multiples, taken_with}
 use Rattle.papr_codes.specs.Hcalls.{hcall_of, row_of}

@@ -1,6 +1,6 @@
 -- The texts of made receipts: each answer once.
 use Rattle.std.specs.Prelude.{codes}
-use Rattle.std.proofs.Common.{◌≡◌, ℕ, [], ◌∷◌, true, false, refl}
+use Rattle.std.proofs.Common.{◌≡◌, ℕ, [], ◌∷◌, ◌++◌, true, false, refl}
 use Rattle.std.specs.Fmt.{digits}
 use Rattle.storage_prot.specs.declared.want.Want.TheVariants.{Store}
 use Rattle.storage_prot.specs.Protection.{permission, rows}

@@ -1,6 +1,6 @@
 -- The texts of made replies: each form of a line once.
 use Rattle.std.specs.Prelude.{codes, map}
-use Rattle.std.proofs.Common.{◌≡◌, List, [], ◌∷◌, true, false, Some, None, refl}
+use Rattle.std.proofs.Common.{◌≡◌, List, [], ◌∷◌, ◌++◌, true, false, Some, None, refl}
 use Rattle.std.specs.List.{flat_map}
 use Rattle.std.specs.Fmt.{digits}
 use Rattle.papr_codes.specs.Hcalls.{hcall_of, row_of}

@@ -1,5 +1,5 @@
 -- Texts that are accepted, and the traces that they are.
-use Rattle.std.proofs.Common.{◌≡◌, ℕ, [], ◌∷◌, refl, Ok}
+use Rattle.std.proofs.Common.{◌≡◌, ℕ, [], ◌∷◌, ◌++◌, refl, Ok}
 use Rattle.std.specs.Prelude.{codes, true, false}
 use Rattle.frame_grants.specs.declared.grant.Kind.TheVariants.{Ram}
 use Rattle.frame_grants.specs.Grants.{add_refusal, refusals as grant_refusals, with_grant}

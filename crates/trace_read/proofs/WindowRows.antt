@@ -1,5 +1,5 @@
 -- Lines of windows on worked inputs: what is accepted, and each cause for which one is refused.
-use Rattle.std.proofs.Common.{◌≡◌, ℕ, List, [], ◌∷◌, refl, Result, Ok, Err}
+use Rattle.std.proofs.Common.{◌≡◌, ℕ, List, [], ◌∷◌, ◌++◌, refl, Result, Ok, Err}
 use Rattle.std.specs.Prelude.{codes, ⊤, true}
 use Rattle.bus_window.specs.Windows.{BusWindow, bus_window}
 use Rattle.frame_grants.specs.declared.grant.Kind.TheVariants.{Ram}

@@ -1,6 +1,6 @@
 -- The serial run on worked traces: the hypervisor calls on entries, and walks that find nothing.
 use Rattle.std.specs.Prelude.{codes}
-use Rattle.std.proofs.Common.{◌≡◌, List, [], ◌∷◌, false, refl}
+use Rattle.std.proofs.Common.{◌≡◌, List, [], ◌∷◌, ◌++◌, false, refl}
 use Rattle.std.specs.Fmt.{digits}
 use Rattle.frame_grants.specs.Grants.{machine_range}
 use Rattle.power_addr.specs.Pages.{tag_of, same_page}

@@ -52,7 +52,7 @@ each_at P [] i d p h = p
 each_at P (x ∷ xs) zero d p h = h.0
 each_at P (x ∷ xs) (suc i) d p h = each_at P xs i d p h.1
 
--- The same, of an index that is one of the list's.
+-- The element at an index of the list has what each of its elements has.
 pub each_within :
     {A : Type 0} (P : A → Type 0) (xs : List A) (i : ℕ) (d : A)
     → AllByRecursion P xs

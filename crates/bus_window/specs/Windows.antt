@@ -1,6 +1,6 @@
 -- Windows of a bus: which there can be, and the entry of a bus address.
 use Rattle.std.specs.Prelude.{◌≡◌, ℕ, ◌+◌, ◌-◌, ◌*◌, ◌/◌, ◌%◌, ◌^◌, ◌<◌, ◌≤◌, ◌==◌, ◌&&◌, Bool, Option, Some, None, nat_le, nat_lt, if◌then◌else◌}
-use Rattle.pool_range.specs.Ranges.{address_end}
+use Rattle.pool_range.specs.Ranges.{address_end, page_bytes}
 
 -- The number by which calls name the window, the bus address at which it begins, and how many pages
 -- it has.
@@ -13,10 +13,6 @@ pub record BusWindow : Type 0 where
 abbrev pub bus_window : ℕ → ℕ → ℕ → BusWindow
 bus_window liobn base pages = record { liobn = liobn; base = base; pages = pages }
 
--- The bytes of a page.
-abbrev pub page_bytes : ℕ
-page_bytes = 4096
-
 -- ---- which there can be
 -- The number has 32 bits, and the window is of 1 to 2 ^ 14 whole pages that end at 2 ^ 60 or below.
 pub record IsWindow (w : BusWindow) : Type 0 where
@@ -26,7 +22,7 @@ pub record IsWindow (w : BusWindow) : Type 0 where
   pub few : w.pages ≤ 2 ^ 14
   pub end : w.base + w.pages * page_bytes ≤ address_end
 
--- The same as a test.
+-- Whether a guest can have this window, as a test.
 abbrev pub is_window : BusWindow → Bool
 is_window w =
     nat_lt w.liobn (2 ^ 32)

@@ -7,4 +7,4 @@
 
 mod window;
 
-pub use window::{PAGE_BYTES, Window};
+pub use window::Window;

@@ -1,11 +1,8 @@
 ghost use Rattle.std.specs.Prelude.{◌≡◌, ◌≤◌, ◌<◌, ◌^◌, ◌==◌, Some, IfSome};
 ghost use Rattle.bus_window.specs.Windows.{IsWindow, bus_window, window_of_parts, entry_at};
 
-use pool_range::ADDRESS_END;
+use pool_range::{ADDRESS_END, PAGE_BYTES};
 use std::marker::Model;
-
-/// The bytes of a page of a window.
-pub const PAGE_BYTES: u64 = 4096;
 
 /// The binary logarithm of the bytes of a page.
 const PAGE_SHIFT: u32 = 12;

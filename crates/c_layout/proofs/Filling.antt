@@ -27,7 +27,7 @@ pub fill_more :
 fill_more items old now i d x below inside is read =
     rw (is, read, add-one) (fill_next items old i d below inside)
 
--- All that go.
+-- When as many items are put as there are and as there is room for, the list is filled.
 pub fill_whole :
     {X : Type 0} (items old : List X) (i : ℕ)
     → i ≡ min (length items) (length old)
@@ -109,7 +109,7 @@ put_item items old now i d x below is read =
     ∙ placed-append (take i items) (get_or items i d ∷ []) old 0
     ∙ (λ k. set (sym is k) (at k) (sym read k)))
 
--- All of them.
+-- When all items are put the list is filled.
 pub put_all :
     {X : Type 0} (items old : List X) (i : ℕ)
     → length items ≤ i

@@ -77,7 +77,7 @@ listed_long :
 listed_long grants count room =
     length-map (take count grants) grant_of ∙ length-take-le count grants room
 
--- One grant more.
+-- With one grant more the first grants are still those of the list.
 pub listed_more :
     (list : List PaprGrant) (grants : List Grant) (i : ℕ) (g : PaprGrant) (d : Grant)
     → i < length list
@@ -332,7 +332,8 @@ machine_by grants count logical bytes last room order counted some =
         at (inl passes) = rw (same, passes) refl
         at (inr fails) = rw (same, fails) refl
 
--- The same by how many grants there are up to that one.
+-- The machine range of a logical range is in the last of the grants counted up to it, or there is
+-- none.
 pub machine_last :
     (grants : List PaprGrant) (count logical bytes below : ℕ)
     → count ≤ length grants

@@ -38,7 +38,8 @@ pub record IsPassed (old new : Entry) : Type 0 where
   pub marked : new ≡ entry_with old new.state
   pub later : Follows old.state new.state
 
--- So of all of them.
+-- Of two lists of entries, each entry of the second is the one of the first with a later state, and
+-- marked.
 abbrev pub ArePassed : List Entry → List Entry → Type 0
 ArePassed [] [] = Unit {0}
 ArePassed [] (n ∷ ns) = ⊥

@@ -6,7 +6,7 @@ use Rattle.entry_model.specs.History.{state_eq}
 use Rattle.entry_model.proofs.Sorted.{state_self}
 use Rattle.c_layout.specs.Entries.{Entry, entry_with}
 
--- It holds what it was given.
+-- An entry holds the state that it was given.
 pub held_as_given : (e : Entry) (s : State) → (entry_with e s).state ≡ s
 held_as_given e s = refl
 

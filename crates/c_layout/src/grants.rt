@@ -28,7 +28,7 @@ impl PaprGrant {
         is_io: false,
     };
 
-    /// The same grant, as it is added to others.
+    /// The grant as `frame_grants` has it, to be added to others.
     pub fn grant(&self) -> Grant
         ensures { result ≡ grant_of self.now }
     {
@@ -56,7 +56,7 @@ impl PaprGrant {
             && length <= self.length - (logical - self.logical)
     }
 
-    /// The same grant, as C has it.
+    /// The grant as C has it.
     pub fn of(grant: &Grant) -> PaprGrant
         ensures { grant_of result ≡ grant.now }
     {

@@ -32,7 +32,7 @@ each_tame W order grants calls.ClearMod ws stored = h_clear_mod_tame W order _
 each_tame W order grants calls.BulkRemove ws stored = h_bulk_remove_tame W order ws
 each_tame W order grants other ws stored = answered_tame W rc.Function (λ e. cc)
 
--- Its operations are on entries of the table.
+-- The operations of a call's plan are on entries of the table.
 pub each_within :
     (order : ℕ) (grants : List Grant) (hcall : Hcall) (ws : List ℕ)
     → least_order ≤ order

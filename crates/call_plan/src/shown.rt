@@ -12,7 +12,7 @@ pub enum ShownWords {
 }
 
 impl ShownWords {
-    /// These of the receipt's entry.
+    /// Of the doublewords of a receipt's entry, as it was, those that are shown.
     pub fn words(self, receipt: &Receipt) -> ReplyWords
         ensures { result ≡ words_shown self receipt.now }
     {

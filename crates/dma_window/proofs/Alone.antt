@@ -41,7 +41,7 @@ emptied s =
     emptied_by s.valid (s.stamp == 0xFFFFFFFF) s (record (empty_state 0) { stamp = s.stamp + 1 })
     refl refl
 
--- Also where the states have no such entry.
+-- After a removal that is not worn its entry is empty, also where the states have no such entry.
 entry_emptied :
     (states : List State) (entry : ℕ)
     → not_worn (receipt_at states (call (ops.Remove no_test) entry)).answer ≡ true

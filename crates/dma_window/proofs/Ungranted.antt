@@ -9,7 +9,7 @@ use Rattle.frame_grants.specs.declared.grant.Kind.{Kind}
 use Rattle.frame_grants.specs.Grants.{machine_range}
 use Rattle.frame_grants.proofs.Landing.{part_range}
 use Rattle.entry_model.specs.declared.device_reply.DeviceOutcome.TheVariants as outcomes
-use Rattle.bus_window.specs.Windows.{page_bytes}
+use Rattle.pool_range.specs.Ranges.{page_bytes}
 use Rattle.dma_window.specs.Pages.{is_ram_kind, is_ram}
 use Rattle.dma_window.specs.Entries.{address_of, permits}
 use Rattle.dma_window.specs.Devices.{logical_of, landing_at, outcome_by}

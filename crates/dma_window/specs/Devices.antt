@@ -7,7 +7,8 @@ use Rattle.entry_model.specs.declared.operation.Op.TheVariants.{Read}
 use Rattle.entry_model.specs.declared.receipt.Receipt.{Receipt}
 use Rattle.entry_model.specs.Trial.{IsTrial, call}
 use Rattle.entry_model.specs.Replies.{no_window_reply}
-use Rattle.bus_window.specs.Windows.{BusWindow, page_bytes, entry_at}
+use Rattle.pool_range.specs.Ranges.{page_bytes}
+use Rattle.bus_window.specs.Windows.{BusWindow, entry_at}
 use Rattle.entry_model.specs.declared.device_reply.DeviceReply.{DeviceReply}
 use Rattle.entry_model.specs.declared.device_reply.DeviceOutcome.{DeviceOutcome}
 use Rattle.entry_model.specs.declared.device_reply.DeviceOutcome.TheVariants.{At, Denied, NoWindow, Ungranted}

@@ -1,7 +1,7 @@
 -- The pages of memory that a device may be given.
 use Rattle.std.specs.Prelude.{ℕ, Bool, true, false, List}
 use Rattle.std.specs.Option.{option_map_or}
-use Rattle.bus_window.specs.Windows.{page_bytes}
+use Rattle.pool_range.specs.Ranges.{page_bytes}
 use Rattle.frame_grants.specs.declared.grant.Grant.{Grant}
 use Rattle.frame_grants.specs.declared.grant.Kind.{Kind}
 use Rattle.frame_grants.specs.declared.grant.Kind.TheVariants.{Ram, Io}

@@ -4,9 +4,10 @@ ghost use Rattle.dma_window.specs.Devices as devices;
 
 use crate::making::make;
 use crate::tce::{address, is_ram, permits, tce_of};
-use bus_window::{PAGE_BYTES, Window};
+use bus_window::Window;
 use entry_model::{DeviceOutcome, DeviceReply, EntryStore, Op, Receipts};
 use frame_grants::Grants;
+use pool_range::PAGE_BYTES;
 
 /// Where a device's access ends by the page's TCE.
 fn outcome_by(grants: &Grants, tce: u64, ioba: u64, write: bool) -> DeviceOutcome

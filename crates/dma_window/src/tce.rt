@@ -5,11 +5,11 @@ ghost use Rattle.entry_model.specs.declared.operation.Op.TheVariants.{Enter, Rem
 ghost use Rattle.dma_window.specs.Entries as entries;
 ghost use Rattle.dma_window.specs.Pages.{is_ram};
 
-use bus_window::PAGE_BYTES;
 use entry_model::{EntryState, NO_TEST, Op};
 use frame_grants::Kind;
 use hpte_fields::VALID;
 use page_grants::GrantedMemory;
+use pool_range::PAGE_BYTES;
 
 /// The logical address of the page.
 const ADDRESS: u64 = 0x0FFF_FFFF_FFFF_F000;

@@ -26,15 +26,15 @@ Means word k = (word ≡ word_of k) × (k.stamp < 2 ^ 32)
 abbrev pub lock_bit : ℕ → Bool
 lock_bit word = bit_and word (2 ^ 63) == 2 ^ 63
 
--- Its shut bit.
+-- The shut bit of a number.
 abbrev pub shut_bit : ℕ → Bool
 shut_bit word = bit_and word (2 ^ 62) == 2 ^ 62
 
--- Its valid bit.
+-- The valid bit of a number.
 abbrev pub valid_bit : ℕ → Bool
 valid_bit word = bit_and word (2 ^ 61) == 2 ^ 61
 
--- Its stamp.
+-- The stamp in a number.
 abbrev pub stamp_of_word : ℕ → ℕ
 stamp_of_word word = bit_and word (2 ^ 32 - 1)
 

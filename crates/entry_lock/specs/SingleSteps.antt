@@ -40,7 +40,7 @@ pub record LineOperationsAreSteps : Type 0 where
       (cached : Line) (d : Doing) → Names (LineSecondLookTells cached d) (Look d.entry d.op)
   pub mark : (cached : Line) (d : Doing) → Names (LineMarkTells cached d) Mark
 
--- Each operation.
+-- Each operation of a hypervisor call and of an access is a single step.
 abbrev pub OperationsAreSingleSteps : Type 0
 OperationsAreSingleSteps =
     HolderOperationsAreSteps × AccessOperationsAreSteps × LineOperationsAreSteps

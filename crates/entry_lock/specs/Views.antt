@@ -70,7 +70,7 @@ all_but_second [] = []
 all_but_second (n ∷ []) = n ∷ []
 all_but_second (n ∷ m ∷ ms) = n ∷ ms
 
--- What it gives.
+-- The actor number that a split gives away, the second of its own.
 abbrev pub second_alone : List ℕ → List ℕ
 second_alone [] = []
 second_alone (n ∷ []) = []

@@ -21,7 +21,7 @@ pub record MadeReceipts (v w : View) (rs : List Receipt) : Type 0 where
   pub fronts : KeepsFronts v.fronts rs w.fronts
   pub numbers : w.numbers ≡ v.numbers
 
--- It made them on entries of the table.
+-- The pass made just these receipts, each of an entry of a table of 2 ^ order bytes.
 pub record MadeInTable (order : ℕ) (v w : View) (rs : List Receipt) : Type 0 where
   pub made : MadeReceipts v w rs
   pub inside : All (IsInTable order) rs

@@ -133,7 +133,7 @@ impl Play<u8, View> for Loads {
     ghost then = { HeldDataPlay };
 }
 
-/// The shut.
+/// The shut of an entry by its holder.
 pub struct Shuts;
 
 impl Play<u8, View> for Shuts {
@@ -143,7 +143,7 @@ impl Play<u8, View> for Shuts {
     ghost then = { HeldPlay ShutTells };
 }
 
-/// The release.
+/// The release of an entry by its holder, unchanged.
 pub struct Releases;
 
 impl Play<u8, View> for Releases {
@@ -162,7 +162,7 @@ impl Play<u8, View> for Stores {
     ghost then = { ShutDataPlay };
 }
 
-/// The settle.
+/// The settle of a shut entry, which opens it with its new state.
 pub struct Settles;
 
 impl Play<u8, View> for Settles {
@@ -193,7 +193,7 @@ impl Play<u8, View> for LookedLoads {
     ghost then = { LookedDataPlay };
 }
 
-/// The second look.
+/// The second look of an access, which decides it.
 pub struct SecondLooks<W> {
     marker: PhantomData<W>,
 }
@@ -205,7 +205,7 @@ impl<W: ForDoing> Play<u8, View> for SecondLooks<W> {
     ghost then = { DecidingPlay SecondLookTells W.doing };
 }
 
-/// The mark.
+/// The mark of R and C by an access.
 pub struct Marks<W> {
     marker: PhantomData<W>,
 }

@@ -17,7 +17,7 @@ pub struct View {
     pub fronts: LinkedList<u64>,
     /// The first data word of the entry that it has shut is that of the state after.
     pub first_stored: bool,
-    /// The same of the second data word.
+    /// The second data word of the entry that it has shut is that of the state after.
     pub second_stored: bool,
     /// How many shares there are in all.
     pub passes: u32,

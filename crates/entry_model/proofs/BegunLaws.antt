@@ -77,7 +77,7 @@ begun_whole goes (c ∷ cs) [] begun none = cc
 begun_whole goes (c ∷ cs) (q ∷ qs) begun none =
     (begun.0, rw begun.1.0 (begun_whole goes cs qs begun.1.1 none))
 
--- There are at most as many receipts as calls.
+-- A trial that has begun has made at most as many receipts as it has calls.
 pub begun_short :
     (goes : Answer → Bool) (cs : List Call) (rs : List Receipt)
     → IsBegunTrial goes cs rs

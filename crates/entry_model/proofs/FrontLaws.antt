@@ -75,7 +75,7 @@ pub keeps_more :
 keeps_more f g h [] ys a b = lower_keeps f g h ys a b
 keeps_more f g h (x ∷ xs) ys a b = (a.0, keeps_more (fronts_after f x) g h xs ys a.1 b)
 
--- One receipt.
+-- A receipt that is ahead of the fronts keeps them.
 pub one_keeps : (f : List ℕ) (r : Receipt) → IsAhead f r → KeepsFronts f (r ∷ []) (fronts_after f r)
 one_keeps f r ahead = (ahead, below_self (fronts_after f r))
 

@@ -309,7 +309,7 @@ other_alike s r c ClearMod e =
     (record s { changed = false })
 other_alike s r c (Access tag base key no_execute want masks) e = cc
 
--- So whether one changes the entry doesn't either.
+-- Whether an operation that is no access leaves an entry doesn't depend on the entry's R and C.
 pub other_still :
     (s : State) (r c : Bool) (op : Op)
     → is_access op ≡ false

@@ -201,7 +201,7 @@ denied_first :
 unfolding large has_base permission rows row_says key_rows
 denied_first = refl
 
--- And an entry of another page has no say.
+-- A mask doesn't refuse an access of another page: its answer is NoMatch.
 of_another_page :
     reply_of (with_key false false)
     (Access 0x1081 12 false false Store (with_mask no_masks Amr 0xFFFFFFFFFFFFFFFF))

@@ -55,7 +55,7 @@ abbrev pub last_after : State → List Receipt → State
 last_after s [] = s
 last_after s (r ∷ rs) = last_after (after_of r) rs
 
--- The same receipts, listed in another order.
+-- Two lists have the same receipts, each as often, in any order.
 pub data Regrouped : List Receipt → List Receipt → Type 0 where
   nothing : Regrouped [] []
   kept : (r : Receipt) {xs ys : List Receipt} → Regrouped xs ys → Regrouped (r ∷ xs) (r ∷ ys)

@@ -91,7 +91,7 @@ abbrev pub mask_against_op : State → Op → Option MaskName
 mask_against_op s (Access tag base key no_execute want masks) = mask_against s masks want
 mask_against_op s other = None
 
--- So of a receipt's operation.
+-- The mask that refused the receipt's operation, where one did.
 abbrev pub mask_of : Receipt → Option MaskName
 mask_of r = mask_against_op r.before r.op
 

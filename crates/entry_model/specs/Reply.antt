@@ -32,7 +32,7 @@ abbrev pub fits_andcond : ℕ → Option ℕ → Bool
 fits_andcond dword0 None = true
 fits_andcond dword0 (Some andcond) = bit_and dword0 andcond == 0
 
--- There is an entry, and it passes both.
+-- There is an entry, and it passes both tests.
 abbrev pub is_found : State → Test → Bool
 is_found s test = s.valid && (fits_avpn s.dword0 test.avpn && fits_andcond s.dword0 test.andcond)
 
@@ -46,7 +46,8 @@ abbrev pub change_to : State → Answer → State → Answer × State
 change_to s answer next =
     if s.stamp == 0xFFFFFFFF then (Worn, s) else (answer, record next { stamp = s.stamp + 1 })
 
--- The same where there is an entry to change.
+-- Where there is an entry to change the stamp rises by one, and at the last stamp nothing changes.
+-- Where there is none the answer is NotFound.
 abbrev pub change_where : Bool → State → Answer → State → Answer × State
 change_where found s answer next = if found then change_to s answer next else (NotFound, s)
 
@@ -114,7 +115,7 @@ is_allowed s mode =
 abbrev pub mask_against : State → Masks → Want → Option MaskName
 mask_against s masks want = forbidden masks (key_of s.dword1) want
 
--- One does.
+-- A mask refuses the access for the entry's key.
 abbrev pub masks_refuse : State → AccessMode → Bool
 masks_refuse s mode = is_some (mask_against s mode.masks mode.want)
 

@@ -19,7 +19,7 @@ pub record IsStep (old : List State) (r : Receipt) (new : List State) : Type 0 w
   pub before : r.before ≡ state_at old r.entry
   pub after : new ≡ states_after old r
 
--- These receipts, one after the other.
+-- The receipts lead from the first states to the second, one step after the other.
 abbrev pub IsRun : List State → List Receipt → List State → Type 0
 IsRun old [] new = new ≡ old
 IsRun old (r ∷ rs) new = (mid : List State) × IsStep old r mid × IsRun mid rs new

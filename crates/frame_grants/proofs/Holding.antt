@@ -110,7 +110,7 @@ within_off :
 within_off start length outer outer_length base size within off =
     grind (arith, nat_tests, within, off)
 
--- It meets no byte of the pool.
+-- A machine range that a logical range has meets no byte of the pool.
 pub machine_range-off_pool :
     (granted : GrantedMemory) (logical length : ℕ) (found : ℕ × Kind)
     → AreApart granted

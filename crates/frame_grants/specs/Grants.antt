@@ -2,7 +2,7 @@
 -- of a logical range.
 use Rattle.std.specs.Prelude.{◌≡◌, ◌<◌, ◌≤◌, ℕ, ◌+◌, ◌-◌, ◌%◌, ◌^◌, ◌==◌, Bool, false, not, ◌&&◌, ◌||◌, if◌then◌else◌, nat_lt, nat_le, List, [], ◌∷◌, ◌++◌, length, filter, find, All, AllPairs, Option, None, option_map}
 use Rattle.std.specs.List.{list_any}
-use Rattle.pool_range.specs.Ranges.{IsPoolRange, address_end}
+use Rattle.pool_range.specs.Ranges.{IsPoolRange, address_end, page_bytes}
 use Rattle.basics.specs.Words.{first_refusal}
 use Rattle.frame_grants.specs.Ranges.{ranges_meet, range_within}
 use Rattle.frame_grants.specs.declared.error.GrantError.{GrantError}
@@ -11,7 +11,7 @@ use Rattle.frame_grants.specs.declared.grant.Grant.{Grant}
 use Rattle.frame_grants.specs.declared.grant.Kind.{Kind}
 use Rattle.frame_grants.specs.declared.grant.Kind.TheVariants.{Ram}
 
--- There may be so many grants.
+-- The most grants that a guest has.
 abbrev pub most_grants : ℕ
 most_grants = 64
 
@@ -38,10 +38,12 @@ no_grant = record { logical = 0; machine = 0; length = 0; kind = Ram }
 abbrev pub is_empty : Grant → Bool
 is_empty grant = grant.length == 0
 
--- Both addresses and the length are multiples of 4,096.
+-- Both addresses and the length are whole pages.
 abbrev pub is_aligned : Grant → Bool
 is_aligned grant =
-    grant.logical % 4096 == 0 && grant.machine % 4096 == 0 && grant.length % 4096 == 0
+    grant.logical % page_bytes == 0
+    && grant.machine % page_bytes == 0
+    && grant.length % page_bytes == 0
 
 -- One of the two ranges ends above 2 ^ 60.
 abbrev pub ends_past : Grant → Bool
@@ -115,9 +117,9 @@ machine_range grants logical length =
 -- A grant that is not empty, is aligned and ends at most at 2 ^ 60.
 pub record IsPlaced (grant : Grant) : Type 0 where
   pub has_bytes : 0 < grant.length
-  pub logical_aligned : grant.logical % 4096 ≡ 0
-  pub machine_aligned : grant.machine % 4096 ≡ 0
-  pub length_aligned : grant.length % 4096 ≡ 0
+  pub logical_aligned : grant.logical % page_bytes ≡ 0
+  pub machine_aligned : grant.machine % page_bytes ≡ 0
+  pub length_aligned : grant.length % page_bytes ≡ 0
   pub logical_end : grant.logical + grant.length ≤ address_end
   pub machine_end : grant.machine + grant.length ≤ address_end
 

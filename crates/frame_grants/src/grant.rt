@@ -2,9 +2,7 @@ ghost use Rattle.std.specs.Prelude.{◌≡◌};
 ghost use Rattle.frame_grants.specs.Grants.{no_grant, is_aligned, ends_past, meets_machine, overlaps, holds};
 
 use crate::range::{ends_past_top, range_within, ranges_meet};
-
-/// Grants consist of pages of 4 KB.
-const PAGE: u64 = 4096;
+use pool_range::PAGE_BYTES;
 
 /// What lies behind a grant.
 #[derive(Clone, Copy, PartialEq, Eq, Debug)]
@@ -57,7 +55,9 @@ impl Grant {
     pub(crate) fn is_aligned(&self) -> bool
         ensures { result ≡ is_aligned self.now }
     {
-        self.logical % PAGE == 0 && self.machine % PAGE == 0 && self.length % PAGE == 0
+        self.logical % PAGE_BYTES == 0
+            && self.machine % PAGE_BYTES == 0
+            && self.length % PAGE_BYTES == 0
     }
 
     /// Whether the logical or the machine range ends above `2^60`.

@@ -47,7 +47,8 @@ pub record Keeps (store : Bool) (told : Answer → Op) (op : Op) : Type 0 where
       → unless_worn (reply_of s op).0 (step_op op)
       ≡ unless_worn (reply_of s op).0 (told (reply_of s op).0)
 
--- So of each operation.
+-- What is kept of each operation of these calls, however it is answered, is what is told of the
+-- answer.
 abbrev pub AllKeep : Bool → (Answer → Op) → List Call → Type 0
 AllKeep store told cs = AllByRecursion (λ (c : Call). Keeps store told c.op) cs
 

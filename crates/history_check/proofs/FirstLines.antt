@@ -21,7 +21,7 @@ lacks_all c (x ∷ xs) none =
 pub none_lacks : (c : ℕ) (text : List ℕ) → IsFirstByte (is_byte c) text None → lacks c text ≡ true
 none_lacks c text none = lacks_all c text (λ k low. none k (omega arith) low)
 
--- Nor has what stands before the first.
+-- The text before the first such byte has none.
 pub first_lacks :
     (c i : ℕ) (text : List ℕ) → IsFirstByte (is_byte c) text (Some i) → lacks c (take i text) ≡ true
 first_lacks c i text first =

@@ -165,7 +165,7 @@ module _ (s later : AllStores) (ls : List TraceLine) (text : List ℕ) (plain : 
         behind = p.behind;
       }
 
-  -- That of each number.
+  -- What is known of the lines on the store of each number.
   pieces :
       (number : ℕ)
       → (us : List RepliedLine)

@@ -344,7 +344,7 @@ parts_good t rs g =
     (cut_quiet (lines_with_replies t.lines rs))
     (subst (λ (X : Type 0). X) (sym (opening_is t x.0 x.1)) ((side_by_side t rs).0 g).sections)
 
--- And the other way round.
+-- A run whose parts are good is a good run.
 pub good_parts :
     (t : AcceptedTrace) (rs : List Reply)
     → AreReplies t.lines rs

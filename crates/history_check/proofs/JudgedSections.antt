@@ -297,7 +297,7 @@ module _ (t : AcceptedTrace) (text : List ℕ) (k : ℕ) (w : AllStores) (ms : L
   begins rs rest f =
       explained_begins (k + 1) t text rest (to_whole rest (last_in w ms x rs rest plain f))
 
-  -- It isn't found.
+  -- Where no replies to the last section are found, that section is bad.
   pub no_last :
       ((rs : List Reply) (rest : List ℕ) → AreFound w ms x rs rest → ⊥)
       → IsVerdict t text (verdicts.Bad (k + 1))
@@ -308,7 +308,7 @@ module _ (t : AcceptedTrace) (text : List ℕ) (k : ℕ) (w : AllStores) (ms : L
       (from_whole b.1 (begins_explained (k + 1) t text b)) in
       none found.0 b.1 found.1)
 
-  -- It is found, and nothing follows.
+  -- Where replies to the last section are found and no text follows them, the text is good.
   pub last_ends :
       (rs : List Reply) (rest : List ℕ)
       → AreFound w ms x rs rest
@@ -331,7 +331,7 @@ module _ (t : AcceptedTrace) (text : List ℕ) (k : ℕ) (w : AllStores) (ms : L
         stand_before t text (k + 1) j (begins rs rest f) low (omega (arith, last, within)) within
     at (inr e) = rw e good
 
-  -- It is found, and something follows.
+  -- Where more text follows the replies to the last section, the section past the last is bad.
   pub last_goes_on :
       (rs : List Reply) (rest : List ℕ)
       → AreFound w ms x rs rest

@@ -46,7 +46,7 @@ none_on s number ls text none =
       stays = record { windows = refl; processors = refl; number = refl };
     })
 
--- The page table.
+-- With the lines on the page table found, the first store is done.
 pub table_on :
     (s later : AllStores) (ls : List TraceLine) (text : List ℕ) (n : ℕ)
     → LeavesStore s.table later.table ls text n

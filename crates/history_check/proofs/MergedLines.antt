@@ -30,7 +30,7 @@ pub record IsWhole (ws : List BusWindow) (last : ℕ) (ls : List TraceLine)
   pub lines : lines_in all ≡ ls
   pub own : (number : ℕ) → number ≤ last → replied_on_store ws number all ≡ pieces number
 
--- They are of the lines on each store.
+-- The pieces are of the lines on each store, up to the last.
 abbrev pub ArePieces : List BusWindow → ℕ → List TraceLine → (ℕ → List RepliedLine) → Type 0
 ArePieces ws last ls pieces =
     (number : ℕ) → number ≤ last → lines_in (pieces number) ≡ lines_on_store ws number ls

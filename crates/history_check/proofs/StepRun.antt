@@ -57,7 +57,7 @@ step_within ls a order i states found d low h =
     (subst (AllByRecursion (IsStepOf (length states) (length ls) (length order)))
     (drop_more order i d low) h.within).0
 
--- the next step
+-- With the next step made one step more is.
 pub step_made :
     (ls : List TraceLine) (a : List State) (order : List LineStep) (i : ℕ)
     (states found : List State) (d : LineStep) (l : TraceLine) (s t : State)

@@ -425,7 +425,7 @@ map_length :
 map_length [] = refl
 map_length (r ∷ rs) = ap (λ l. length (marks_in r) ∷ l) (map_length rs)
 
--- no replies stand
+-- Where no replies with the steps that were read stand, the text has no section of these lines.
 pub no_replies :
     (o : Opening) (ls : List TraceLine) (given : List ℕ) (steps : List LineStep) (counts : List ℕ)
     (listed closing : List State)

@@ -28,7 +28,7 @@ pub record Opening : Type 0 where
   pub states : List State
   pub processors : List Processor
 
--- That of the page table in a run that is so far.
+-- What the next section of a store needs of a run that has come so far.
 abbrev pub opening_of : Store → Opening
 opening_of w = record {
   context = context_of w;

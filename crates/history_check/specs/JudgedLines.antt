@@ -53,7 +53,7 @@ pub record Judged : Type 0 where
   pub counts : List ℕ
   pub found : List State
 
--- It by its parts.
+-- What the judge has before it, made of its five parts.
 abbrev pub judged :
     StoreContext → List State → List TraceLine → List ℕ → List State → Judged
 judged context closing ls ns found = record {
@@ -132,7 +132,8 @@ TellsReply j p front (Some n) later behind =
     × LeadsTo front (events_in p (replied j h.reply)) behind
 TellsReply j p front None later behind = HasNoReply j p front
 
--- The same, of all processors and their fronts.
+-- What is told of a line, with the processors and the fronts of all in place of its own
+-- processor's.
 abbrev pub TellsLine :
     JudgedLine
     → List Processor

@@ -25,7 +25,7 @@ use Rattle.vcpu.specs.Walked.{WalkFindsPage}
 use Rattle.trace_line.specs.declared.act.Act.TheVariants as acts
 use Rattle.trace_reply.specs.declared.reply.Reply.TheVariants as replies
 
--- It is a reply to an access of this processor.
+-- The reply is one to an access of this processor.
 abbrev pub IsAccessOn : AccessContext → Processor → Request → AccessReply → Type 0
 IsAccessOn context p a r =
     IsAccessReply context (cached_line p.cache) a (segment_of p.slots a.ea) r
@@ -37,7 +37,7 @@ pub record IsReplyTo (context : StoreContext) (p : Processor) (act : Act) (r : R
     pub call : IsCallReply context act r
     pub access : IsReplyToAccess (access_of context) p act r
 
--- And it is by operations that found these states.
+-- It is a reply of this processor to what a line asks, by operations that found these states.
 pub record IsReplyOn
     (context : StoreContext)
     (p : Processor)
@@ -55,7 +55,7 @@ LineFindsPage p (acts.Access want ea user) (replies.Access r) =
     WalkFindsPage (segment_of p.slots ea) r.by r.receipts
 LineFindsPage p act r = Unit {0}
 
--- It is the reply to an access by a cached line.
+-- The reply is to an access by a cached line.
 abbrev pub IsHitReply : Reply → Type 0
 IsHitReply r = way_of r ≡ Some Hit
 

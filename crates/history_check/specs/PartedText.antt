@@ -47,7 +47,7 @@ pub record IsPartOf
     pub lines : part.lines.items ≡ lines_on_store ws number ls
     pub told : part.text.items ≡ part_on_store ws number ls text
 
--- There is one of each number.
+-- There is a part for each number, with the lines and the text of its store.
 abbrev pub AreParts : List BusWindow → List TraceLine → List ℕ → List Part → Type 0
 AreParts ws ls text parts =
     (number : ℕ) (d : Part)

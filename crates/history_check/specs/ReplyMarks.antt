@@ -16,7 +16,7 @@ abbrev pub way_of : Reply → Option By
 way_of (replies.Access r) = r.by
 way_of other = None
 
--- The same way, where both tell one.
+-- Two accesses found their entries the same way, where both say how.
 abbrev pub SameWay : Option By → Option By → Type 0
 SameWay (Some a) (Some b) = a ≡ b
 SameWay a b = Unit {0}

@@ -43,7 +43,7 @@ pub record Step : Type 0 where
   pub op : Op
   pub answer : Answer
 
--- That of a receipt.
+-- The step of a receipt. At the last stamp its operation isn't kept.
 abbrev pub step_of : Receipt → Step
 step_of r = record {
   entry = r.entry;

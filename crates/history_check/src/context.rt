@@ -7,7 +7,7 @@ use std::marker::Model;
 /// entries of the page table are no window's.
 #[derive(Drop)]
 pub struct Context<'a> {
-    /// That of a table.
+    /// The table's order: it has `2^order` bytes.
     pub order: u8,
     /// The granted memory.
     pub grants: &'a Grants,

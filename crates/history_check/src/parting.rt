@@ -12,7 +12,7 @@ use trace_line::TraceLine;
 /// Lines of a section, and their part of a text.
 #[derive(Drop)]
 pub struct Part {
-    /// In file order.
+    /// The lines, in file order.
     pub lines: Vec<TraceLine>,
     /// Bytes of whole lines.
     pub text: Vec<u8>,
@@ -53,7 +53,7 @@ fn put_line(part: &mut Part, line: &TraceLine, own: &[u8]) -> Result<(), AllocEr
     Ok(())
 }
 
-/// So many parts of no lines.
+/// Parts without lines and without text, this many.
 fn empty_parts(alloc: Global, count: usize) -> Result<Vec<Part>, AllocError>
     ensures size { IfOk result (λ parts. length parts.items ≡ count) }
     ensures empty { IfOk result

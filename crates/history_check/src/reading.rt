@@ -17,7 +17,7 @@ use trace_line::TraceLine;
 /// The steps that the marks of a section's lines tell, and how many each line has.
 #[derive(Drop)]
 pub struct SectionSteps {
-    /// In file order.
+    /// The steps, in file order.
     pub steps: Vec<LineStep>,
     /// How many of the steps each line has.
     pub counts: Vec<usize>,

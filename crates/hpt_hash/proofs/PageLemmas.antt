@@ -311,7 +311,7 @@ pub page_at-group :
     → group_of p order (is_secondary dword0) ≡ index / 8
 page_at-group order index dword0 dword1 p e = (made-page_at order index dword0 dword1 p e).group
 
--- The same about an outcome that is `page_at`.
+-- An outcome that is `page_at` is a page of the entry, where there is one.
 pub page_at-found :
     (order index dword0 dword1 : ℕ) (o : Option VirtualPage)
     → dword0 < 2 ^ 64

@@ -43,7 +43,7 @@ fits_in pool_state order place large fit =
       apart = list_any-false (overlap (block_at place order)) pool_state.taken (not-true _ free);
     }
 
--- It begins below none that begins below it.
+-- A block that begins below another has the lower place.
 lower_place : (block other : Block) → begins_below block other ≡ true → other.place < block.place
 lower_place block other below = grind (arith, nat_tests)
 

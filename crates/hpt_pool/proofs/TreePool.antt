@@ -27,7 +27,7 @@ fits_at pool_state order k pool least small below =
     fits_is pool_state order (pool_state.base + k * 2 ^ order)
     (multiple_placed pool_state order k pool least small below)
 
--- As many steps as multiples.
+-- A search of the tree makes as many steps as the pool has multiples of the order.
 same_steps :
     (order wanted : ℕ) → 18 ≤ order → 2 ^ (18 + (order - 18) - wanted) ≡ 2 ^ (order - wanted)
 same_steps order wanted least = ap (λ n. 2 ^ (n - wanted)) (omega arith)

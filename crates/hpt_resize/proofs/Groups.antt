@@ -93,7 +93,7 @@ target_in_table from to state index target large e =
     (slot_in_table to (group_of is.page to (is_secondary state.dword0)) index large
     (group_of-lt is.page to (is_secondary state.dword0)))
 
--- There it is an entry of the same page.
+-- At its index of the new table the entry is one of the same page.
 pub target_page :
     (from to : ℕ) (state : State) (index target : ℕ)
     → least_order ≤ from

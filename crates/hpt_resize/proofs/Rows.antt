@@ -27,7 +27,7 @@ to_a_larger_table : target_of 18 19 (entry 0x801011 0x3012) 0x20 ≡ Some 0x4020
 unfolding target_of carried_page page_at group_of tag_of entry
 to_a_larger_table = refl
 
--- That of VSID 1 and index 5 has the hash 4.
+-- The page of VSID 1 and index 5 has the hash 4, and so group 4 in either table.
 to_a_smaller_table : target_of 19 18 (entry 0x1011 0x4012) 0x25 ≡ Some 0x25
 unfolding target_of carried_page page_at group_of tag_of entry
 to_a_smaller_table = refl

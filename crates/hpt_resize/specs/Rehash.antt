@@ -30,7 +30,7 @@ target_of from to state index =
     (λ page. group_of page to (is_secondary state.dword0) * 8 + index % 8)
     (carried_page from state index)
 
--- It keeps its doublewords, R and C.
+-- The entry as it is carried over: its doublewords, R and C at stamp 0.
 abbrev pub at_stamp_0 : State → State
 at_stamp_0 state = record state { stamp = 0 }
 

@@ -37,7 +37,7 @@ abbrev pub pool_without : Option PendingTable → PoolState → PoolState
 pool_without None pool = pool
 pool_without (Some table) pool = without_block pool table.place
 
--- There is a pending table of this order.
+-- A table of this order is pending.
 abbrev pub is_pending : ℕ → Option PendingTable → Bool
 is_pending order None = false
 is_pending order (Some table) = table.order == order

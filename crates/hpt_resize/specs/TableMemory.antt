@@ -49,7 +49,7 @@ opening_memory limit order pool_base pool_order entries =
           };
     }
 
--- The same with these states in the table.
+-- The memory with these states in the current table.
 abbrev pub with_states : TableMemory → List State → TableMemory
 with_states memory states = record memory { table = record memory.table { states = states } }
 

@@ -120,7 +120,7 @@ fn target_index(order_from: u8, order_to: u8, state: &EntryState, index: usize) 
     Some(group as usize * 8 + index % 8)
 }
 
-// The same entry at stamp 0.
+// The entry as it is carried over: its doublewords, R and C at stamp 0.
 fn fresh(state: EntryState) -> EntryState
     ensures { result ≡ at_stamp_0 state }
 {

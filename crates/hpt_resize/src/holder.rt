@@ -8,7 +8,7 @@ pub trait StateHolder {
     /// The state that it holds.
     ghost held: { Self → State };
 
-    /// The same holder with this state.
+    /// A holder, but with this state in place of its own.
     ghost holding: { Self → State → Self };
 
     /// The state that it holds.

@@ -102,7 +102,7 @@ each_of_none (r ∷ rs) none = at (cases_Bool (is_no_match r.answer)) (each_of_n
   at (inl on) rest = (on, rest (sym (found-on r rs on) ∙ none))
   at (inr off) rest = let some : Some r ≡ None = sym (found-off r rs off) ∙ none in cc
 
--- Then each call was made.
+-- Where each receipt of a trial says NoMatch, each of its calls was made.
 pub trial_whole :
     (cs : List Call) (rs : List Receipt)
     → IsTrial is_no_match cs rs
@@ -133,7 +133,7 @@ found_has P (r ∷ rs) x all found =
           let same : r ≡ x = cc in
           subst (λ y. P y × (is_no_match y.answer ≡ false)) same (all.0, off)
 
--- It shows its line.
+-- A walk shows the line of the entry that it found.
 pub found_shows :
     (page : VirtualPage) (rs : List Receipt) (x : Receipt)
     → found_of rs ≡ Some x

@@ -37,7 +37,7 @@ pub record IsGrantedWords (grants : List Grant) (dword0 dword1 : ℕ) : Type 0 w
       IsGrantedPage grants (frame_of dword1 (actual_of dword0 dword1)) (actual_of dword0 dword1)
   pub fits : dword0 < 2 ^ 64
 
--- So does that of an entry, where it is valid.
+-- The page of a valid entry lies in one grant, and its first doubleword has 64 bits.
 abbrev pub IsGranted : List Grant → State → Type 0
 IsGranted grants s = s.valid ≡ true → IsGrantedWords grants s.dword0 s.dword1
 

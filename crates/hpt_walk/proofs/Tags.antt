@@ -86,7 +86,7 @@ compared-has p d secondary e =
       valid = low.1;
     }
 
--- And the other way round.
+-- A valid doubleword is odd.
 valid-is : (d : ℕ) → is_valid d ≡ true → d % 2 ≡ 1
 valid-is d v = sym (and_mask d 1) ∙ eqb-true (bit_and d 1) 1 v
 

@@ -76,7 +76,7 @@ pub record LiesInActualPage (ea : ℕ) (s : State) : Type 0 where
   pub page : logical_of ea s / 2 ^ actual_size s ≡ page_bits s.dword1 / 2 ^ actual_size s
   pub offset : logical_of ea s % 2 ^ actual_size s ≡ ea % 2 ^ actual_size s
 
--- So of each effective address and each entry.
+-- The logical address of every access lies in the actual page of its entry.
 abbrev pub AddressesLieInActualPages : Type 0
 AddressesLieInActualPages = (ea : ℕ) (s : State) → LiesInActualPage ea s
 

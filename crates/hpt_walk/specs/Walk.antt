@@ -39,7 +39,7 @@ walk_calls order page mode =
     group_calls (access_op page mode false) (group_of page order false)
     ++ group_calls (access_op page mode true) (group_of page order true)
 
--- Their entries.
+-- The sixteen entries of a walk, in its order.
 unfoldable pub walk_entries : ℕ → VirtualPage → List ℕ
 walk_entries order page =
     range_with_len (group_of page order false * 8) 8

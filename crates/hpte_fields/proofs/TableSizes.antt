@@ -11,7 +11,7 @@ entries_few n order size fits =
     in
     omega (arith, size, most)
 
--- Nor has it more groups.
+-- A group of a table is below the count of groups of the largest.
 pub groups_few :
     (n order : ℕ) → n < group_count order → IsTableOrder order → n < group_count greatest_order
 groups_few n order below fits =

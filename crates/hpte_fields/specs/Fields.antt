@@ -27,7 +27,7 @@ referenced_bit = 0x100
 abbrev pub changed_bit : ℕ
 changed_bit = 0x80
 
--- Both.
+-- R and C, in doubleword 1.
 abbrev pub rc_bits : ℕ
 rc_bits = 0x180
 

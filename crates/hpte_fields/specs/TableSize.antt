@@ -9,11 +9,11 @@ least_order = 18
 abbrev pub greatest_order : ℕ
 greatest_order = 34
 
--- There are tables of 2 ^ order bytes.
+-- A table may have 2 ^ order bytes.
 abbrev pub IsTableOrder : ℕ → Type 0
 IsTableOrder order = (least_order ≤ order) × (order ≤ greatest_order)
 
--- The same, as a test.
+-- Whether a table may have 2 ^ order bytes, as a test.
 abbrev pub is_table_order : ℕ → Bool
 is_table_order order = nat_le least_order order && nat_le order greatest_order
 
@@ -33,6 +33,6 @@ is_architected_order order = nat_le least_order order && nat_le order greatest_a
 abbrev pub entry_count : ℕ → ℕ
 entry_count order = 2 ^ (order - 4)
 
--- And 2 ^ (order - 7) groups.
+-- A table of 2 ^ order bytes has 2 ^ (order - 7) groups of eight entries.
 abbrev pub group_count : ℕ → ℕ
 group_count order = 2 ^ (order - 7)

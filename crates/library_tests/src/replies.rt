@@ -134,7 +134,7 @@ fn check_summary(
     Ok(())
 }
 
-/// The same of the two lines and their replies.
+/// The summary of the replies to the two lines, with this table at its end, is [`SUMMARY`].
 fn check_summary_of_lines(rt: &impl Abort, alloc: Global, table: &Shown) -> Result<(), Fail> {
     let replies = replies(alloc)?;
     let trace = accepted(alloc, LINES)?;

@@ -67,7 +67,7 @@ unfolding fronts run opening_machine after_step after_allowed_step step_result s
     removal has_base permission rows row_says key_rows made_by fronts_after_step run_fronts pair_of
 after_a_join = refl
 
--- So does one of an actor that has seen more.
+-- The join of an actor that has seen more leaves the larger fronts.
 after_the_other_join :
     fronts
     ((0, Split 1)

@@ -67,7 +67,7 @@ HoldsEntry e (Held d) = d.entry ≡ e
 HoldsEntry e (HeldShut d) = d.entry ≡ e
 HoldsEntry e (Looked d) = ⊥
 
--- There is such an entry.
+-- The machine's table has this entry.
 abbrev pub in_table : Machine → ℕ → Bool
 in_table m e = nat_lt e (length m.entries)
 

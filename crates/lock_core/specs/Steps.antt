@@ -63,7 +63,7 @@ new_doing e op k seen = record {
   seen = seen;
 }
 
--- The same operation by another control word.
+-- The operation that an actor is at, when it has found another control word.
 abbrev pub with_noted : Doing → Control → Doing
 with_noted d k = record d { noted = k }
 

@@ -65,7 +65,7 @@ known_of (Some first) (Some second) seen = Some (first, second)
 abbrev pub known_words : Doing → Option (ℕ × ℕ)
 known_words d = known_of d.first d.second d.seen
 
--- It loaded neither.
+-- The operation has loaded neither data word.
 abbrev pub has_loaded_none : Doing → Bool
 has_loaded_none d = not (is_some d.first) && not (is_some d.second)
 

@@ -50,7 +50,7 @@ fn quiet_entries(alloc: Global, states: &[EntryState]) -> Result<Vec<Entry>, All
     Ok(entries)
 }
 
-/// This many actors, of which the first is live.
+/// This many actors, of which the first alone is live.
 fn first_actors(alloc: Global, count: u32) -> Result<Vec<Actor>, AllocError>
     requires { 0 < count }
     ensures { IfOk

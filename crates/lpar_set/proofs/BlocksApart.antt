@@ -67,7 +67,7 @@ pub record AreHeld (taken blocks : List Block) : Type 0 where
   pub held : All (Contains taken) blocks
   pub apart : AllPairs BeginApart blocks
 
--- Where nothing changes.
+-- Blocks that are held replace themselves, where nothing changes.
 pub same_replaces : (taken own : List Block) → AreHeld taken own → Replaces taken own taken own
 same_replaces taken own held =
     record { held = held.held; apart = held.apart; kept = λ block here apart. (here, apart) }

@@ -35,7 +35,7 @@ pub record Moves (table : Table) (pending : Option PendingTable) (pool : PoolSta
       Replaces pool.taken (own_blocks table pending) pool_after.taken
       (own_blocks table_after pending_after)
 
--- The same of what is at memory.
+-- From one memory to the next the pool stays sound, and the blocks of its tables are replaced.
 abbrev pub MovesMemory : TableMemory → TableMemory → Type 0
 MovesMemory memory after =
     Moves memory.table memory.pending memory.pool after.table after.pending after.pool

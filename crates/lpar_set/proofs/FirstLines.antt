@@ -76,7 +76,7 @@ first_replies w [] (suc n) = refl
 first_replies w (l ∷ ls) (suc n) =
     ap (λ rs. (run_on w l).0 ∷ rs) (first_replies (run_on w l).1 ls n)
 
--- They are those of the serial run.
+-- The replies to the first lines are the first replies of the serial run.
 pub first_of_serial :
     (t : AcceptedTrace) (n : ℕ)
     → t.config.windows ≡ []

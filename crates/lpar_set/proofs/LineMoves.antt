@@ -40,7 +40,7 @@ pub record HasRun (old new : Reading) : Type 0 where
   pub before : is_running old.stage ≡ true
   pub after : is_running new.stage ≡ true
 
--- So does a line that gives this.
+-- What a line makes of its partition's reading, by what it gives.
 abbrev pub Moves : Given → Reading → Reading → Type 0
 Moves givens.Remark old new = new ≡ old
 Moves givens.Setting old new = HasSet old new

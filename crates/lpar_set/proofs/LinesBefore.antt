@@ -133,7 +133,7 @@ stranger_found before r number grant is met =
           (sym (ap (meets_any grant) (get_or-set_other r.readings number k None None other))
           ∙ here)
 
--- And the other way round.
+-- A grant that meets one that another partition's lines gave meets one in what was read of them.
 pub stranger_met :
     (before : List (List ℕ)) (r : SetReading) (number : ℕ) (grant : Grant)
     → IsFollowed before r

@@ -156,7 +156,7 @@ outcome_own limit flags shift table pending pool own =
     (start_outcome shift pending pool).pending refl
     (started_own shift table pending pool own))))
 
--- The same of what is at memory.
+-- All taken blocks are those of the memory's own tables.
 abbrev pub OwnsAll : TableMemory → Type 0
 OwnsAll memory = AreOwn memory.table memory.pending memory.pool
 

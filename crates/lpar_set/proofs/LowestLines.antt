@@ -27,7 +27,7 @@ use Rattle.lpar_set.proofs.SetReadingsKept.{retaken}
 use Rattle.lpar_set.proofs.Walked.{Reads, too_long, by_lines, Walk, walked, stopped, reads, walk_lines}
 use Rattle.trace_line.specs.Lines.{most_lines}
 
--- It is refused at this line or one before.
+-- The input is refused at line n or before it.
 abbrev IsToldBy : ℕ → Result AcceptedSet (ℕ × Why) → Type 0
 IsToldBy n said = (m : ℕ) × (other : Why) × (m ≤ n) × (said ≡ Err (m, other))
 
@@ -196,7 +196,7 @@ end_told false lines r number n why is below named stage e =
     let here : r.taken + 1 ≡ n = ap (λ (x : ℕ × Why). x.0) same in
     (r.taken + 1, whys.Begin, omega (arith, here), unbegun_told lines r number is below named stage)
 
--- So many of its lines are read.
+-- The partition's lines among those before are read, and the reading counts all of them.
 record AreRead (lines before : List (List ℕ)) (number : ℕ) : Type 0 where
   reading : Reading
   read : after_all (own_start lines) (own_lines number before) ≡ Ok reading

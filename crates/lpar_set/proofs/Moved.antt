@@ -20,7 +20,7 @@ use Rattle.partition.proofs.Resizing.{answer_at}
 use Rattle.trace_reply.specs.declared.reply.Reply.TheVariants as replies
 
 -- ---- other places
--- The table, elsewhere.
+-- The table at another place.
 abbrev pub table_at : ℕ → Table → Table
 table_at place table = record table { place = place }
 
@@ -57,7 +57,7 @@ pub result_like :
 result_like v pool place other l x =
     record { reply = refl; pool = pool; place = place; other = other; state = refl }
 
--- An answer_at alone.
+-- The same reply with a state that differs in its pool and its places alone.
 pub answer_like :
     (v : Store) (pool : PoolState) (place other : ℕ) (reply : Reply)
     → IsLikeAfter (reply, v) (reply, moved v pool place other)
@@ -74,7 +74,7 @@ dump_like v pool place other =
 
 -- ---- commit
 
--- The same code, and the same at memory but for the places.
+-- The second has the first's code, and its memory with another pool and other places.
 pub record IsLikeMemory (x y : Rc × TableMemory) : Type 0 where
   pub pool : PoolState
   pub place : ℕ

@@ -19,7 +19,7 @@ first_alone s l table =
     let on : is_on [] s.window l.act ≡ true = ap (λ o. is_on [] o l.act) table in
     rw on refl
 
--- So it is where the page table is the one store.
+-- Where the page table is the only store, the replies of a run are its replies.
 pub table_alone :
     (s : Store) (ls : List TraceLine) → IsTable s → replies_from [] (s ∷ []) ls ≡ replies_on s ls
 table_alone s [] table = refl

@@ -35,7 +35,7 @@ shared_number : number_of (codes "shared") ≡ None
 unfolding number_of
 shared_number = refl
 
--- Nor does `shared`.
+-- A `shared` line names no partition.
 pub shared_numberless : (ws : List (List ℕ)) → is_shared ws ≡ true → first_number ws ≡ None
 shared_numberless [] is = refl
 shared_numberless (w ∷ ws) is =

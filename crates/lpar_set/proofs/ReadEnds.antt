@@ -74,7 +74,7 @@ taken_is all now begun i index o left inside is running value =
     ∙ ap (λ (n : ℕ). get_or now n None) is
     ∙ left.left i (omega arith) inside
 
--- Its `begin` has come.
+-- The `begin` of the partition that is taken out has come.
 pub taken_running :
     (all : List (Option Reading)) (begun : List ℕ) (i : ℕ) (o : Option Reading)
     → i < length begun
@@ -104,7 +104,7 @@ more_left all now begun i index o left inside is apart = record {
   same = length-set now index o ∙ left.same;
 }
 
--- Its partition is one more of those of the lines.
+-- The traces that are read are those of the partitions that have begun, up to this one.
 pub more_read :
     (all : List (Option Reading)) (begun : List ℕ) (i : ℕ) (o : Option Reading)
     (ps qs : List NumberedTrace) (p : NumberedTrace) (other : Reading)
@@ -126,7 +126,7 @@ more_read all begun i o ps qs p other inside is before more one =
     ∙ ap (λ (xs : List NumberedTrace). xs ++ partition_or all other (get_or begun i 0) ∷ []) before
     ∙ sym whole
 
--- And one more that is accepted.
+-- With one more accepted trace each of the traces is accepted.
 pub more_accepted :
     (ps qs : List NumberedTrace) (p : NumberedTrace)
     → qs ≡ ps ++ p ∷ []

@@ -35,7 +35,7 @@ refusal_so :
 refusal_so r number o why None = refl
 refusal_so r number o why (Some grant) = rw (stranger_so r number o grant) refl
 
--- Nor does what an accepted line adds.
+-- What an accepted line adds doesn't look at the partition's own reading in the list either.
 given_so :
     (r : SetReading) (number : ℕ) (o : Option Reading) (old new : Reading) (given : Given)
     → with_given (told_so r number o) number old new given ≡ with_given r number old new given

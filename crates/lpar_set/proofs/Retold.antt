@@ -76,7 +76,7 @@ strangers_told r number new is retold =
     rw (get_or_default r.readings k d None inside)
     (apart, strangers_back new.config.granted.grants (grants_read (reading_at r k)) apart))
 
--- These parts hold, so the whole does.
+-- A set that is read anew of one partition is sound, where its parts about those that began hold.
 pub retold_is :
     (r : SetReading) (number : ℕ) (new : Reading) (begun : List ℕ) (tables : PoolState)
     (turns : List Turn)
@@ -154,7 +154,7 @@ steady_order r number m new inside steady begun =
     (λ same. steady.order (subst (HasBegun r) same begun) ∙ ap (order_of r) (sym same))
     (λ other. refl)
 
--- So do the orders of their opening tables.
+-- The orders of the opening tables of those that have begun stay.
 pub steady_orders :
     (r : SetReading) (number : ℕ) (new : Reading) (tables : PoolState) (turns : List Turn)
     → IsSetReading r
@@ -166,7 +166,7 @@ steady_orders r number new tables turns is inside steady =
     (each_map (HasBegun r) (λ m. order_of (told r number new r.begun tables turns) m ≡ order_of r m)
     r.begun (λ m begun. steady_order r number m new inside steady begun) is.begun.running)
 
--- Its lines are as many as before.
+-- A set stays sound when one reading is told anew that has as many run lines as before.
 pub steady_keeps :
     (r : SetReading) (number : ℕ) (new : Reading)
     → IsSetReading r

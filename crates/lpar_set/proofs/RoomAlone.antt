@@ -86,7 +86,7 @@ size_apart p m size = at (cases_lt p m) where
 abbrev pub half_of : PoolState → ℕ
 half_of pool = 2 ^ (pool.order - 1)
 
--- It lies in the lower half or in the upper one.
+-- A block that is smaller than the pool lies in its lower half or in its upper one.
 pub in_half :
     (pool : PoolState) (block : Block)
     → IsPoolRange pool.base pool.order

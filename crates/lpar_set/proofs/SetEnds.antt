@@ -78,7 +78,7 @@ occurring_begun r s number ended inside there =
     both_ways _ (list_all_at has_begun r.readings number None inside not_begun) ended.begun) in
     begun_if r.pool_base r.pool_order (reading_at r number) there begun
 
--- So at least one has.
+-- A set that ends well has a partition that has begun.
 pub some_begun :
     (r : SetReading) (s : AcceptedSet) → IsSetReading r → HasEnded r s → 1 ≤ length r.begun
 some_begun r s is ended =

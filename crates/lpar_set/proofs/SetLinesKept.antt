@@ -106,7 +106,7 @@ plain_by :
 plain_by true r s w ws is counted e = subst IsSetReading (same_ok _ _ _ refl e) is
 plain_by false r s w ws is counted e = allowed_keeps r s w ws is counted e
 
--- So do the words of any line.
+-- The words of any accepted line keep the set sound.
 pub words_keep :
     (r s : SetReading) (ws : List (List ℕ))
     → IsSetReading r

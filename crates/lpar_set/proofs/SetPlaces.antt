@@ -21,7 +21,7 @@ same_reading r number new inside =
     ap (λ o. unwrap_or o (reading_beside r.pool_base r.pool_order))
     (get_or-set_same r.readings number (Some new) None inside)
 
--- That of another number stays.
+-- The reading of another number stays.
 pub other_reading :
     (r : SetReading) (number m : ℕ) (new : Reading)
     → m ≢ number
@@ -46,7 +46,7 @@ begun_option :
 begun_option base order None begun = absurd (false≢true begun)
 begun_option base order (Some reading) begun = refl
 
--- Its reading is there.
+-- A partition that has begun has a reading in the list.
 pub begun_there : (r : SetReading) (m : ℕ) → HasBegun r m → reading_at r m ≡ Some (reading_of r m)
 begun_there r m begun = begun_option r.pool_base r.pool_order (reading_at r m) begun
 

@@ -61,7 +61,7 @@ moved_beside r number given new is moved =
       behind = omega (arith, taken);
     }
 
--- Its grants stood apart from those of others.
+-- Before a line the grants of its partition meet none of another partition's.
 old_strangers :
     (r : SetReading) (number m : ℕ)
     → IsSetReading r
@@ -282,7 +282,7 @@ own_keeps r s number ws is below counted own e =
     own_by r s number ws (after_text (retaken r number) ws) is below counted
     (λ new said. own_moves (retaken r number) new ws own said) e
 
--- So does a line of a partition.
+-- An accepted line of a partition keeps the set sound.
 pub member_keeps :
     (r s : SetReading) (number : ℕ) (ws : List (List ℕ))
     → IsSetReading r

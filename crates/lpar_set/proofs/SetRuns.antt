@@ -180,7 +180,8 @@ pub turn_here :
     (turns : List Turn) (i : ℕ) (d : Turn) → i < length turns → Contains turns (get_or turns i d)
 turn_here turns i d inside = (i, inside, get_or_default turns i (get_or turns i d) d inside)
 
--- It may be run.
+-- The turn's partition and the processor of its line are there, and the table's number is at most
+-- n.
 pub record MayRun (s : AcceptedSet) (w : SetState) (n : ℕ) (t : Turn) : Type 0 where
   pub inside : t.partition < length w.members
   pub cpu : (line_of s t).cpu < length (member_at w t.partition).processors

@@ -63,7 +63,7 @@ set_moved w k m m' pool' l r is moved =
     ap (λ (x : Reply × Store). in_set x.0 (with_member w k x.1))
     (moved ∙ ap (λ (n : MemberState). run_on (with_pool w.pool n) l) is)
 
--- Where nothing changes.
+-- A set whose member and pool are as they were is the same set.
 pub same_parts :
     (w : SetState) (k : ℕ) (m m' : MemberState) (pool' : PoolState)
     → m ≡ member_at w k

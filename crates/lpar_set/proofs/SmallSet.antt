@@ -19,7 +19,7 @@ use Rattle.lpar_set.specs.SetRun.{MemberState, SetState}
 abbrev pub storage : ℕ → Grant
 storage machine = record { logical = 0; machine = machine; length = 0x40000000; kind = Ram }
 
--- That alone.
+-- The grants of a partition that has only this 1 GB of main storage.
 abbrev pub storage_at : ℕ → List Grant
 storage_at machine = storage machine ∷ []
 
@@ -87,7 +87,7 @@ small_member machine place = record {
   processors = new_processor ∷ [];
 }
 
--- Both blocks of the pool are taken.
+-- A pool of two blocks, both of which are taken.
 abbrev pub full_pool : PoolState
 full_pool = record {
   base = 0x1000000000;

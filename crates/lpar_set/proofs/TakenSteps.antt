@@ -32,7 +32,7 @@ pub guard_taken :
 guard_taken true why done e = refl
 guard_taken false why done e = absurd (never_ok why done e)
 
--- So does what comes behind it.
+-- The test holds, and what comes behind it ends so.
 pub record IsPassed {B : Type 0} (test : Bool) (said : Result B Why) (end : B) : Type 0 where
   pub holds : test ≡ true
   pub rest : said ≡ Ok end

@@ -20,7 +20,7 @@ other_turn k turns t other =
     filter-append (λ (t : Turn). eqb t.partition k) turns (t ∷ [])
     ∙ rw (ne_eqb t.partition k other) (append-nil (turns_of k turns))
 
--- One of this.
+-- A turn of this partition comes behind its others.
 pub own_turn :
     (k : ℕ) (turns : List Turn) (t : Turn)
     → t.partition ≡ k

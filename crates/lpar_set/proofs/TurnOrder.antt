@@ -264,7 +264,7 @@ member_ordered r s line number new given ordered is member =
     member_by (is_run given) r s line number new given ordered is member
     (moves_grow given (retaken (counted r) number) new member.moved.moves) member.added.turns
 
--- So does a line that is counted alone.
+-- A line that is only counted keeps the order.
 pub counted_ordered : (r : SetReading) → AreOrdered r → AreOrdered (counted r)
 counted_ordered r ordered = none_more r (counted r) ordered (omega arith) refl (λ k d inside. refl)
 

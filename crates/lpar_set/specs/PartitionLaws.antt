@@ -34,7 +34,7 @@ pub record IsSetOf (lines : List (List ℕ)) (s : AcceptedSet) : Type 0 where
       (p : NumberedTrace) → Contains s.partitions p → own_trace lines p.number ≡ Ok p.trace
   pub turns : AllPairs (λ (t u : Turn). (line_of s t).number < (line_of s u).number) s.turns
 
--- So is each set that is accepted.
+-- Each accepted set is the set of its lines.
 abbrev pub SetsAreOfTheirLines : Type 0
 SetsAreOfTheirLines =
     (bytes : List ℕ) (s : AcceptedSet) → set_of bytes ≡ Ok s → IsSetOf (raw_lines bytes) s
@@ -105,7 +105,7 @@ pub data IsAgainstSet (before : List (List ℕ)) (line : List ℕ) : Why → Typ
 
 -- What may be said against an input, with the number of the line and the reason.
 pub data IsAgainst (bytes : List ℕ) : ℕ → Why → Type 0 where
-  -- There are more bytes than may be.
+  -- The input has more bytes than may be.
   long : most_bytes < length bytes → IsAgainst bytes 0 whys.Long
   -- A partition that a line names has a trace of its own lines that is refused there and for this.
   own :

@@ -86,7 +86,7 @@ grants_read (Some reading) = reading.config.granted.grants
 abbrev pub meets_any : Grant → Option Reading → Bool
 meets_any grant reading = list_any (meets_machine grant) (grants_read reading)
 
--- It meets that of a grant of another partition.
+-- The machine range of the grant meets that of a grant of another partition.
 abbrev pub meets_stranger : SetReading → ℕ → Grant → Bool
 meets_stranger r number grant =
     list_any (meets_any grant) (slice_set r.readings number None)
@@ -165,7 +165,7 @@ abbrev pub after_first_word : SetReading → List ℕ → List (List ℕ) → Re
 after_first_word r w ws =
     if bytes_eq (codes "shared") w then with_shared r (w ∷ ws) else after_numbered_words r w ws
 
--- So it is, where the second word may stand there.
+-- After a line with this first word and these behind it, where the second may stand there.
 unfoldable pub after_allowed : SetReading → List ℕ → List (List ℕ) → Result SetReading Why
 after_allowed r w ws = do
   allowed ← guard (not (is_of_the_whole ws)) whys.Lpar

@@ -33,7 +33,7 @@ abbrev pub is_no_mem_code : Rc → Bool
 is_no_mem_code NoMem = true
 is_no_mem_code other = false
 
--- So is the reply's.
+-- The reply is one to a hypervisor call, with the code H_NO_MEM.
 abbrev pub is_no_mem : Reply → Bool
 is_no_mem (replies.Hcall h) = is_no_mem_code h.rc
 is_no_mem other = false
@@ -84,7 +84,7 @@ abbrev pub EndsAtHome : AcceptedSet → ℕ → Outcome → Type 0
 EndsAtHome s k (At address) = IsOwnAddress s k address
 EndsAtHome s k other = Unit {0}
 
--- So does a device's.
+-- A device's access that is allowed lands at an address of its own partition.
 abbrev pub DeviceEndsAtHome : AcceptedSet → ℕ → DeviceOutcome → Type 0
 DeviceEndsAtHome s k (devices.At address) = IsOwnAddress s k address
 DeviceEndsAtHome s k other = Unit {0}

@@ -53,7 +53,7 @@ pub record MayBegin (r : SetReading) (order : ℕ) : Type 0 where
   pub order_fits : IsTableOrder order
   pub place : length r.begun < 8
 
--- So it is, if the line is a `begin`.
+-- A line that gives a `begin` gives one that may be.
 abbrev pub MayBeGiven : SetReading → Given → Type 0
 MayBeGiven r (givens.Begin order) = MayBegin r order
 MayBeGiven r other = Unit {0}
@@ -66,6 +66,6 @@ reading_or readings other number = unwrap_or (slice_index_or readings number Non
 abbrev pub partition_or : List (Option Reading) → Reading → ℕ → NumberedTrace
 partition_or readings other number = trace_read_so (reading_or readings other number) number
 
--- It is there, and its `begin` has come.
+-- The number has a reading, and its `begin` has come.
 abbrev pub IsRunningAt : List (Option Reading) → Reading → ℕ → Type 0
 IsRunningAt readings other number = is_running (reading_or readings other number).stage ≡ true

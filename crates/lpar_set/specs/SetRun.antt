@@ -39,7 +39,7 @@ with_pool pool m = record {
   processors = m.processors;
 }
 
--- The same without the pool.
+-- What a run carries of a partition but for the pool.
 abbrev pub without_pool : Store → MemberState
 without_pool w = record {
   grants = w.grants;

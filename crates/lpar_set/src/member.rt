@@ -139,7 +139,7 @@ impl Member {
         self.current.states = table.close();
     }
 
-    // A quiet line.
+    // Runs a quiet line on the partition's own table and the shared pool.
     #[inline(never)]
     #[tactic(auto, unfolding(run_model::specs::QuietLines::run_quiet_line, trace_line::specs::Lines::is_quiet))]
     fn quiet(
@@ -217,7 +217,7 @@ impl Member {
         }
     }
 
-    // H_RESIZE_HPT_PREPARE.
+    // Answers H_RESIZE_HPT_PREPARE from the shared pool.
     fn prepare(
         &mut self,
         alloc: Global,

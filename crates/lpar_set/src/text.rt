@@ -72,7 +72,7 @@ fn put_numbered(
     put_reply(out, line, reply)
 }
 
-/// The same for the reply in the slot.
+/// Appends the text of the reply in the slot, each of its own lines behind the partition's number.
 fn put_numbered_slot(
     out: &mut String,
     number: u8,

@@ -9,7 +9,7 @@ use Rattle.std.specs.Str.{IsAscii}
 use Rattle.number_text.specs.Numbers.{hex}
 
 -- ---- a loop's steps
--- The first digit.
+-- A number below 16 has one digit.
 pub digits_onto_last :
     (n : ℕ) (acc : List ℕ) (k : ℕ)
     → n / 16 ≡ 0
@@ -48,7 +48,7 @@ pub digits_onto_start :
 unfolding digits
 digits_onto_start n more = digits_onto-append 16 64 n [] more
 
--- One digit fewer.
+-- Divided by the base a number has one digit fewer.
 pub fewer : (base n k : ℕ) → 0 < base → n < base ^ (k + 1) → n / base < base ^ k
 fewer base n k some small =
     let more : n < base ^ suc k = rw add-one at small in

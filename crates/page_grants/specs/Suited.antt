@@ -23,7 +23,7 @@ suits_size grants dword1 size =
     (machine_range grants (frame_of dword1 size.actual) (2 ^ size.actual))
     false
 
--- The same of the page that these doublewords map.
+-- One grant holds the whole page that these doublewords map, and the storage control bits suit it.
 unfoldable pub suits_grants : List Grant → ℕ → ℕ → Bool
 suits_grants grants dword0 dword1 =
     option_map_or (suits_size grants dword1) (size_of dword0 dword1) false

@@ -139,7 +139,7 @@ asked_off cs i entry op a r at is off =
     ∙ found-off (receipt_at a (call op entry)) (each_as_is a (drop (i + 1) cs)) (rw is at off)
     ∙ ap Some (sym is)
 
--- There is no further call.
+-- Where no call is left nothing more is found.
 pub asked_none :
     (cs : List Call) (i : ℕ) (a : List State)
     → call_at cs i ≡ None

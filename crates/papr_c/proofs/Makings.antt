@@ -11,7 +11,7 @@ use Rattle.c_layout.specs.declared.grants.PaprGrant.{PaprGrant}
 use Rattle.c_layout.specs.Grants.{grant_of}
 use Rattle.papr_c.specs.Grants.{making_from, making_of, Making}
 
--- There is no pool.
+-- Where the pool's range is refused no list of grants is made.
 pub without_pool :
     (base order : ℕ) (given : List PaprGrant) (e : RangeError)
     → range_refusal base order ≡ Some e
@@ -19,7 +19,7 @@ pub without_pool :
 unfolding making_of
 without_pool base order given e no_pool = rw no_pool refl
 
--- There is one, so the grants are added.
+-- Where there is a pool the grants are added one after the other.
 pub beside_pool :
     (base order : ℕ) (given : List PaprGrant)
     → range_refusal base order ≡ None
@@ -47,7 +47,7 @@ pub one_refused :
 one_refused granted index given d e inside refused =
     rw (drop-cons given index d inside, refused) refl
 
--- No more.
+-- Behind the last grant the list is made.
 pub all_taken :
     (granted : GrantedMemory) (index : ℕ) (given : List PaprGrant)
     → length given ≤ index

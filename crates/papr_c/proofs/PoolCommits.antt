@@ -85,7 +85,7 @@ carried t shift pool table None order is =
     rw is (refl, refl, λ success. ap (λ n. rehashed_states table.order n table.states) (sym order))
 carried t shift pool table (Some c) order is = rw is (refl, refl, λ success. absurd (cc))
 
--- Nothing refuses it.
+-- Where nothing refuses a commit both complete it alike.
 completed :
     (p : Option PendingTable) (flags shift : ℕ) (pool : PoolState) (table : Table)
     → commit_refusal flags shift p ≡ None

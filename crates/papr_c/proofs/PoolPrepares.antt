@@ -24,7 +24,7 @@ ready_back t low high few =
     let is_few : nat_le t.ready (entry_count t.order) ≡ true = grind arith in
     rw (is_low, is_high, is_few) refl
 
--- Both answer one code, and leave one table pending.
+-- The calls of C and of the partition answer one code, and leave one table pending.
 AreAlike : ℤ × ResizeMemory → PrepareOutcome → Type 0
 AreAlike here there =
     (here.0 ≡ rc_code there.rc) × (resize_of (pending_of here.1.resize) ≡ resize_of there.pending)

@@ -139,7 +139,7 @@ pub emptied_is :
 unfolding between
 emptied_is first end old = refl
 
--- They are marked as their states tell.
+-- Entries that are given one state are marked where that is another than theirs.
 marked_map : (s : State) (old : List Entry) (n : ℕ)
     → AreMarked old (take n (map (λ e. entry_with e s) old) ++ drop n old)
 marked_map s old zero = marked_none old
@@ -161,7 +161,7 @@ between_marked s first end old = at old first (end - first) where
   at (x ∷ xs) (suc m) n =
       λ k. marked_none (x ∷ []) k ++ at xs m n k
 
--- Their states.
+-- The states of entries of which the first n are given one state.
 states_map : (s : State) (old : List Entry) (n : ℕ)
     → n ≤ length old
     → states_of (take n (map (λ e. entry_with e s) old) ++ drop n old)

@@ -19,7 +19,7 @@ use Rattle.c_layout.proofs.Filling.{placed-append}
 abbrev pub read_all : ℕ → ℕ → List State → List Receipt × List State
 read_all first count a = trial_run (λ answer. true) a (calls_from Read first count)
 
--- Both doublewords of an entry.
+-- Both doublewords of an entry, as numbers.
 abbrev pair_at : List State → ℕ → List ℕ
 pair_at a e = (words_of (state_at a e)).0 ∷ (words_of (state_at a e)).1 ∷ []
 
@@ -58,7 +58,7 @@ pub words-length :
 words-length a first zero = refl
 words-length a first (suc count) = omega (arith, words-length a (first + 1) count)
 
--- One entry more.
+-- With one entry more its two doublewords come behind the others.
 words-more :
     (a : List State) (first i : ℕ)
     → words_of_entries a first (i + 1) ≡ words_of_entries a first i ++ pair_at a (first + i)

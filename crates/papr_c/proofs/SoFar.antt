@@ -29,7 +29,7 @@ drop_at (c ∷ cs) zero entry op at =
     ap (λ (x : ℕ × Op). call x.1 x.0 ∷ cs) same
 drop_at (c ∷ cs) (suc i) entry op at = drop_at cs i entry op at
 
--- There is no rest.
+-- Where there is no call at an index none is left from it on.
 pub drop_none : (cs : List Call) (i : ℕ) → call_at cs i ≡ None → drop i cs ≡ []
 drop_none [] zero none = refl
 drop_none [] (suc i) none = refl
@@ -181,7 +181,7 @@ ends goes cs i entry op a b c old new next rs r at is after put off h =
       ending = rw all (sym (h.on (r ∷ []) ∙ ending-off goes r [] off));
     }
 
--- There is no further call.
+-- Behind the last call the trial has ended, with no receipt that ended it.
 pub past_all :
     (goes : Answer → Bool) (cs : List Call) (i : ℕ) (a b : List State) (old new : List PaprReceipt)
     (rs : List Receipt)

@@ -165,7 +165,7 @@ take_first (i ∷ is) js zero long = absurd (omega (arith, long))
 take_first (i ∷ is) js (suc n) long =
     ap (λ xs. i ∷ xs) (take_first is js n (omega (arith, long)))
 
--- Both clauses that name it.
+-- The slots are filled with the indexes that were found, as both clauses that name them say.
 pub places_are :
     (old : List Entry) (first room : ℕ) (slots new : List ℕ) (f : Found)
     → found old first room ≡ f

@@ -16,7 +16,7 @@ use Rattle.c_layout.specs.Replies.{refused_reply}
 use Rattle.papr_c.specs.Windows.{window_of, page_entry, outcome_of_tce}
 use Rattle.papr_c.proofs.Outcomes.{coded}
 
--- One call.
+-- A plan of one operation has the receipt of that operation, and leaves the states behind it.
 pub one_call :
     (goes : Answer → Bool) (op : Op) (e : ℕ) (entries : List State) (r : Receipt)
     → r ≡ receipt_of e (state_at entries e) op
@@ -43,7 +43,7 @@ first_ends goes op other e entries r is off =
     (λ (q : Receipt). goes q.answer) (sym is) ∙ off in
     rw (is, here) refl
 
--- Two calls.
+-- A plan of two operations has both receipts, where the first one's answer lets it go on.
 pub two_calls :
     (goes : Answer → Bool) (op other : Op) (e : ℕ) (entries : List State) (r s : Receipt)
     → r ≡ receipt_of e (state_at entries e) op

@@ -19,7 +19,7 @@ use Rattle.table_image.specs.Layouts.{laid_out}
 use Rattle.table_image.specs.declared.layout.Layout.{Layout}
 use Rattle.papr_c.specs.Transfers.{entry_bytes, bytes_of_entries, is_unheld, first_unheld, first_refused, entry_of_bytes, entries_of_bytes, replaced}
 
--- One number more.
+-- A range of one number more ends with that number.
 range_more : (a n : ℕ) → range_with_len a (n + 1) ≡ range_with_len a n ++ (a + n) ∷ []
 range_more a zero = let e : a ≡ a + 0 = omega arith in ap (λ x. x ∷ []) e
 range_more a (suc n) =

@@ -148,7 +148,7 @@ NoCauseExactlyAtPages =
     → dword0 < 2 ^ 64
     → (why_of order ptex dword0 dword1 ≡ 0) ↔ IsSome (page_here order ptex dword0 dword1)
 
--- Then the base size that is said is the page's.
+-- Where doublewords translate a page the base size that is said is the page's.
 abbrev pub BaseSizesAreThePages : Type 0
 BaseSizesAreThePages =
     (order ptex dword0 dword1 : ℕ) (p : VirtualPage)

@@ -41,7 +41,7 @@ abbrev pub making_beside : Option RangeError → ℕ → ℕ → List PaprGrant 
 making_beside None base order given = making_from (no_grants base order) 0 given
 making_beside (Some e) base order given = NoPool e
 
--- All of it.
+-- What becomes of a list of grants: the pool's range first, then one grant after the other.
 unfoldable pub making_of : ℕ → ℕ → List PaprGrant → Making
 making_of base order given = making_beside (range_refusal base order) base order given
 

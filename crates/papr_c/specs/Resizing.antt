@@ -25,11 +25,11 @@ abbrev pub resize_memory : PaprResize → List State → ResizeMemory
 resize_memory resize into = record { resize = resize; into = into }
 
 -- ---- what is pending
--- Nothing.
+-- Nothing is pending.
 abbrev pub nothing_pending : PaprResize
 nothing_pending = record { ready = 0; order = 0; pending = false }
 
--- This table.
+-- This table is pending.
 abbrev pub with_pending : PendingTable → PaprResize
 with_pending table = record { ready = table.ready; order = table.order; pending = true }
 

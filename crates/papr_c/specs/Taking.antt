@@ -56,7 +56,7 @@ slots_after f slots = filled slots f.indexes
 abbrev pub marks_told : ℕ → ℕ → PaprTaken
 marks_told count next = record { rc = rc_code Success; count = count; next = next }
 
--- H_PARAMETER.
+-- H_PARAMETER, and no index.
 abbrev pub refused_taking : PaprTaken
 refused_taking = record { rc = rc_code Parameter; count = 0; next = 0 }
 
@@ -73,7 +73,7 @@ outcome_of_taking order entries first slots =
     then (marks_told (length f.indexes) f.next, slots_after f slots)
     else (refused_taking, slots)
 
--- The entries then.
+-- The entries after the call: those that were found are no longer marked.
 abbrev pub entries_after_taking : ℕ → List Entry → ℕ → ℕ → List Entry
 entries_after_taking order entries first room =
     if can_take order entries first

@@ -88,7 +88,7 @@ pub record Agree (walk probe : PaprWalk) : Type 0 where
   pub dword0 : probe.dword0 ≡ walk.dword0
   pub dword1 : without_rc probe.dword1 ≡ without_rc walk.dword1
 
--- So of each table and each access.
+-- For each table and each access the walk and the probe agree.
 abbrev pub ProbesAgreeWithWalks : Type 0
 ProbesAgreeWithWalks =
     (order : ℕ) (a : PaprAccess) (m : WalkMemory)

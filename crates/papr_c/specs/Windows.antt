@@ -51,7 +51,7 @@ abbrev pub device_receipts : List State → Option ℕ → List Receipt
 device_receipts entries None = []
 device_receipts entries (Some e) = receipt_of e (state_at entries e) Read ∷ []
 
--- By that receipt.
+-- What a device's access is told by the receipt of its page's entry, and the slots for receipts.
 abbrev pub device_by :
     List Grant → ℕ → Bool → List PaprReceipt → List Receipt → PaprDevice × List PaprReceipt
 device_by grants ioba write slots rs = (

@@ -62,7 +62,7 @@ pub struct PaprPage {
 enum NoPage {
     /// V is clear.
     Empty,
-    /// They encode no page size.
+    /// The doublewords encode no page size.
     NoSize,
     /// B is above 1, or no page of that base size lies where the tag says.
     NoSegment,

@@ -39,7 +39,7 @@ pub fn no_cause_exactly_at_pages()
     ensures { NoCauseExactlyAtPages }
 {}
 
-/// Then the base page size that is told is the page's.
+/// Where doublewords translate a page the base page size that is told is the page's.
 pub fn base_sizes_are_the_pages()
     ensures { BaseSizesAreThePages }
 {}

@@ -11,7 +11,7 @@ ghost use Rattle.papr_c.specs.Windows.{window_of, page_entry, outcome_of_tce, de
 ghost use Rattle.c_layout.specs.Entries.{states_of, AreMarked};
 
 use crate::trying::make;
-use bus_window::{PAGE_BYTES, Window};
+use bus_window::Window;
 use c_layout::{
     PaprEntry, PaprGrants, PaprReceipt, PaprReply, either_stale, filled_count, is_stale, put_word,
 };
@@ -20,6 +20,7 @@ use entry_model::{Answer, DeviceOutcome, NO_TEST, Op};
 use frame_grants::Kind;
 use page_grants::GrantedMemory;
 use papr_codes::Rc;
+use pool_range::PAGE_BYTES;
 
 /// What empties an entry: any valid one passes its test.
 const REMOVAL: Op = Op::Remove { test: NO_TEST };

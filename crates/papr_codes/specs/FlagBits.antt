@@ -17,7 +17,7 @@ h_avpn = 0x80000000
 abbrev pub h_andcond : ℕ
 h_andcond = 0x40000000
 
--- The four together.
+-- All bits of the four flags together.
 abbrev pub known_flags : ℕ
 known_flags = 0xA0C0000000
 

@@ -96,7 +96,7 @@ answered reads says run x answer faults faults_after result input said (inr stop
       written = stopped.2;
     })
 
--- There was no input.
+-- A run that had no input and ends refused ends as a command that answers may.
 pub refused :
     {A : Type 0} (reads : List ℕ → Result A (ℕ × Reason)) (says : A → Status → List ℕ → Type 0)
     (run : Run) (error : NoInput) (faults faults_after : ℕ) (result : Status)

@@ -49,7 +49,7 @@ impl Case {
         MemorySink::new(alloc, self.sink.piece.max(1), fails, room)
     }
 
-    // That this status and this text are what must come.
+    // Whether this status and this text are those that must come.
     fn compare(&self, status: Status, text: &[u8]) -> Result<(), Miss> {
         if text != self.output.as_slice() {
             return Err(Miss::Text);

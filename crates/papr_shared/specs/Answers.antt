@@ -17,7 +17,7 @@ pub record Handed : Type 0 where
   pub receipts_after : List PaprReceipt
   pub answer : PaprReply
 
--- These.
+-- What a call hands over, made of its five parts.
 abbrev pub handed :
     List ℕ → List ℕ → List PaprReceipt → List PaprReceipt → PaprReply → Handed
 handed words words_after receipts receipts_after answer = record {
@@ -47,7 +47,7 @@ pub record HandedWalk : Type 0 where
   pub receipts_after : List PaprReceipt
   pub found : PaprWalk
 
--- These.
+-- What a walk hands over, made of its three parts.
 abbrev pub handed_walk : List PaprReceipt → List PaprReceipt → PaprWalk → HandedWalk
 handed_walk receipts receipts_after found =
     record { receipts = receipts; receipts_after = receipts_after; found = found }

@@ -7,7 +7,7 @@ use Rattle.shared_pass.specs.declared.held.Pending.{Pending}
 use Rattle.shared_pass.specs.declared.held.Pending.TheVariants.{Nothing, Call, Walk}
 use Rattle.papr_shared.specs.declared.held_up.PaprBusy.{PaprBusy}
 
--- There is nothing to go on with.
+-- What C is told where there is nothing to go on with: all zero.
 abbrev pub not_held_up : PaprBusy
 not_held_up = record { looked = 0; found = 0; entry = 0; done = 0; hold = 0 }
 

@@ -45,11 +45,11 @@ pub record TwoAfter : Type 0 where
   pub other : Option Working
   pub code : ℤ
 
--- These.
+-- What two passes are after a call, made of its three parts.
 abbrev pub two_after : Option Working → Option Working → ℤ → TwoAfter
 two_after pass other code = record { pass = pass; other = other; code = code }
 
--- Both are as they were, and this is the code.
+-- Both passes are as they were, and the call answers this code.
 pub record IsKept (pass other : Option Working) (rc : Rc) (t : TwoAfter) : Type 0 where
   pub pass_is : t.pass ≡ pass
   pub other_is : t.other ≡ other
@@ -110,7 +110,7 @@ pub record ClosedAfter : Type 0 where
   pub pass : Option Working
   pub code : ℤ
 
--- These.
+-- What a closing leaves, made of its four parts.
 abbrev pub closed_after : List State → List State → Option Working → ℤ → ClosedAfter
 closed_after entries entries_after pass code = record {
   entries = entries;

@@ -12,7 +12,7 @@ use Rattle.papr_edge.specs.InputLaws.{long_trace}
 use Rattle.papr_edge.proofs.Completeness.{told_input}
 use Rattle.papr_top.specs.Images.{IsImage, EndsImage, HasImage, HasNoImage, image_output}
 
--- It ends as a command that reads.
+-- An `image` that ends as a command that reads ends as it should.
 pub as_image :
     (layout : Layout) (run : Run) (result : Status)
     → EndsAnswered trace_input (IsImage layout) run result

@@ -55,7 +55,7 @@ held_overlaps grant other offset within held =
     (lt-ltb other.logical (grant.logical + grant.length) (omega arith)) in
     rw meets refl
 
--- So none of the others does, whichever are kept.
+-- Where no other grant overlaps this one none of them holds one of its bytes, whichever are kept.
 none_holds :
     (grant : Grant) (offset : ℕ) (p : Grant → Bool) (others : List Grant)
     → offset < grant.length

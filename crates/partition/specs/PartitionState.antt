@@ -26,7 +26,7 @@ HasStates partition =
 abbrev pub HasNoStates : PartitionState → Type 0
 HasNoStates partition = partition.memory.table.states ≡ []
 
--- The same with this table memory.
+-- The partition with this table memory.
 abbrev pub with_memory : PartitionState → TableMemory → PartitionState
 with_memory partition memory = record partition { memory = memory }
 

@@ -7,11 +7,15 @@ use Rattle.pool_range.specs.declared.range.RangeError.TheVariants.{Order, Unalig
 abbrev pub address_end : ℕ
 address_end = 2 ^ 60
 
+-- The bytes of a page: grants consist of whole pages, and so do DMA windows.
+abbrev pub page_bytes : ℕ
+page_bytes = 4096
+
 -- The order of the smallest range, which has 2 ^ 18 bytes: those of the smallest table.
 abbrev pub least_pool_order : ℕ
 least_pool_order = 18
 
--- And of the largest, which has 2 ^ 34 bytes.
+-- The order of the largest range, which has 2 ^ 34 bytes: those of the largest table.
 abbrev pub greatest_pool_order : ℕ
 greatest_pool_order = 34
 

@@ -4,6 +4,9 @@ ghost use Rattle.pool_range.specs.Ranges.{IsPoolRange, range_refusal, greatest_p
 /// The end of the guest's logical addresses and of machine addresses: 2^60.
 pub const ADDRESS_END: u64 = 1 << 60;
 
+/// The bytes of a page: grants consist of whole pages, and so do DMA windows.
+pub const PAGE_BYTES: u64 = 4096;
+
 /// The least order, of 256 KB, and the greatest, of 16 GB.
 const LEAST: u64 = 18;
 

@@ -76,7 +76,7 @@ index_in_segment true s ea large_64k = omega arith
 index_in_segment true s ea large_16m = omega arith
 index_in_segment true s ea large_16g = omega arith
 
--- It is a page, and these are its parts.
+-- What `page_of_address` gives is a page, and has the parts of the address.
 pub page_of_address-some :
     (b : Bool) (v s ea : ℕ) (p : VirtualPage)
     → page_of_address b v s ea ≡ Some p

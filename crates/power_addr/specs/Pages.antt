@@ -56,7 +56,7 @@ pub record IsPage (p : VirtualPage) : Type 0 where
   pub shift : IsTrue (is_base_shift p.one_tb p.shift)
   pub index : p.index < 2 ^ (offset_bits p.one_tb - p.shift)
 
--- The same as a test.
+-- Whether each part of a page is in its range, as a test.
 abbrev pub is_page : VirtualPage → Bool
 is_page p =
     is_vsid p.one_tb p.vsid

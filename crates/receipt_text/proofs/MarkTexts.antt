@@ -121,13 +121,14 @@ parts_lack c m low entry answer point =
     (lacks_append c (decimal m.bits) _
     (lacks_decimal c m.bits (inl (omega arith))) (rw point answer)))))
 
--- It has neither a space nor a line's end.
+-- The word of a mark has no space.
 pub word_32 : (m : Mark) → lacks 32 (mark_word m) ≡ true
 word_32 m =
     subst (λ w. lacks 32 w ≡ true) (sym (word_is m))
     (parts_lack 32 m (omega arith) (lacks_hex 32 m.entry (inl (omega arith)))
     (answer_lacks m.answer).1 refl)
 
+-- The word of a mark has no line's end.
 pub word_10 : (m : Mark) → lacks 10 (mark_word m) ≡ true
 word_10 m =
     subst (λ w. lacks 10 w ≡ true) (sym (word_is m))

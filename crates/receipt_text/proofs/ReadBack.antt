@@ -72,7 +72,7 @@ line_has_marks a (r ∷ rs) h few marks =
       text = receipts_marks (r ∷ rs);
     })
 
--- The same texts show the same marks.
+-- Receipts with the same text show the same marks.
 pub listed_marks :
     (rs qs : List Receipt)
     → AllByRecursion IsMark (map mark_of rs)

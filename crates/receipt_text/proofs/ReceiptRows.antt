@@ -24,7 +24,7 @@ used =
       stamp = 31;
     }
 
--- The same with R, at the last stamp.
+-- The used entry with R as well, at the last stamp.
 unfoldable pub worn : State
 worn = record used { referenced = true; stamp = 0xFFFFFFFF }
 

@@ -35,7 +35,7 @@ mark_word m =
     ++ codes "."
     ++ answer_word m.answer
 
--- The same behind a space.
+-- The word of a mark, behind a space.
 abbrev pub mark_text : Mark → List ℕ
 mark_text m = codes " " ++ mark_word m
 

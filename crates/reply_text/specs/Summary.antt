@@ -120,7 +120,7 @@ counts_text lines count entries =
     ++ flat_map (counted_text count) all_counted
     ++ entries_text entries
 
--- The same of the replies themselves.
+-- The summary of so many run lines with these replies and, at the end, these valid entries.
 unfoldable pub summary_text : ℕ → List Reply → List (ℕ × State) → List ℕ
 summary_text lines rs entries =
     counts_text lines (λ counted. count_by (is_counted counted) rs) entries

@@ -22,7 +22,7 @@ pub struct Counts {
 }
 
 impl Counts {
-    /// Of no reply.
+    /// The counts of no replies: all 0.
     pub fn new() -> Self
         ensures { (counted : Counted) → count_of result counted ≡ 0 }
     {

@@ -229,7 +229,7 @@ device_lands = record {
   off_pool = λ inside. absurd (omega (arith, inside.to_end));
 }
 
--- It permits no write.
+-- The entry's TCE permits no write, so by it no write of a device lands.
 no_write_by_it : IsDeviceLanding granted true 0x10234 read_tce 0x2000003234 → ⊥
 unfolding read_tce
 no_write_by_it h = let no : false ≡ true = h.permitted in cc

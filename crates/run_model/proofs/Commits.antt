@@ -14,7 +14,7 @@ use Rattle.run_model.specs.QuietLines.{is_success}
 use Rattle.run_model.specs.HeldLines.{AllHold}
 use Rattle.run_model.proofs.HeldLines.{none_hold}
 
--- It succeeded, or the table stays.
+-- A commit succeeds, or the table stays.
 abbrev pub Moves : Table → CommitOutcome → Type 0
 Moves table c = (c.rc ≡ Success) ⊎ (c.table ≡ table)
 
@@ -62,7 +62,7 @@ moved_hold rc old new processors (inr same) h =
     (λ e. none_hold new.states processors)
     (λ e. subst (λ (t : Table). AllHold t.states processors) (sym same) h)
 
--- The same of a partition's table memory.
+-- A commit on a partition's table memory succeeds, or the current table stays.
 pub result_moves :
     (memory : TableMemory) (flags shift : ℕ)
     → ((commit_result memory flags shift).0 ≡ Success)

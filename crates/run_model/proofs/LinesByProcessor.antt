@@ -71,7 +71,7 @@ InFileOrder P processors [] = Unit {0}
 InFileOrder P processors (t ∷ ts) =
     P (processor_at processors t.line.cpu) t × InFileOrder P (processors_after processors t) ts
 
--- one line more
+-- With one line more each processor's own lines have the fact still.
 own_step :
     (P : Processor → RepliedLine → Type 0) (processors : List Processor) (t : RepliedLine)
     (ts : List RepliedLine) (c : ℕ)
@@ -118,7 +118,7 @@ own_lines P processors (t ∷ ts) c within h =
     own_step P processors t ts c within.0 h.0
     (own_lines P (processors_after processors t) ts c (cpus_after processors t ts within.1) h.1)
 
--- and back
+-- Without its first line the rest has the fact still.
 back_rest :
     (P : Processor → RepliedLine → Type 0) (processors : List Processor) (t : RepliedLine)
     (ts : List RepliedLine) (c : ℕ)

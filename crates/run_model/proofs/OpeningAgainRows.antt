@@ -8,7 +8,7 @@ use Rattle.hpt_resize.specs.TableMemory.{opening_memory, empty_states}
 use Rattle.run_model.specs.OpeningAgain.{image_entry, opening_states, with_image_entry}
 use Rattle.run_model.specs.Stores.{page_table}
 
--- It has R and C set.
+-- A configuration whose table opens with one entry, which has R and C set.
 one_entry : Configuration
 one_entry = record {
   order = 18;

@@ -2,7 +2,7 @@
 use Rattle.std.proofs.Common.{◌≡◌, ℕ, ◌%◌, ◌<◌, true, false, Option, Some, None, refl, sym, ap, ◌∙◌, arith}
 use Rattle.std.specs.Option.{option_map_or}
 use Rattle.std.proofs.Math.Nat.{mod-lt}
-use Rattle.bus_window.specs.Windows.{page_bytes}
+use Rattle.pool_range.specs.Ranges.{page_bytes}
 use Rattle.dma_window.specs.Devices.{logical_of}
 use Rattle.dma_window.specs.Entries.{address_of}
 use Rattle.dma_window.specs.Pages.{is_ram_kind, is_ram}

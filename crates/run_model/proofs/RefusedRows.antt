@@ -122,7 +122,7 @@ taken = receipt_of 1 (with_tce 0x6001 9) (ops.Enter (first_word 0x3001) (second_
 busy : HReply
 busy = record { rc = Busy; words = []; receipts = emptied ∷ taken ∷ [] }
 
--- It is this call's reply.
+-- H_BUSY with these receipts is a reply to this H_PUT_TCE: its entry was taken in between.
 put_is_busy : IsReplyOf (put_plan (small 1).grants (Some window) 0x5008 0x3001) busy
 unfolding busy emptied taken with_tce window put_tce_plan is_ram machine_range
 put_is_busy =

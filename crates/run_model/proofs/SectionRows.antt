@@ -119,7 +119,7 @@ unfolding replied_lines replied_line hcall walk resize dump is_quiet hcall_of ro
     protected reached
 by_processor = refl
 
--- It has the reply of the closing states.
+-- The dump has the reply of the closing states.
 dump_is_replied :
     (run_quiet_line (closing (section_of (is_on [] None) (small 2) (cut replied_lines).0 None))
     Dump).0

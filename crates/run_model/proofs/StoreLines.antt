@@ -134,7 +134,7 @@ opening_named : (c : Configuration) → names (opening_stores c) ≡ opening_nam
 unfolding page_table
 opening_named c = ap (λ os. None ∷ os) (opening_windows_named c c.windows)
 
--- So is each line of a run.
+-- Each line of a run is on one of the stores that it opens with.
 pub opening_has : (c : Configuration) (act : Act) → SomeHas c.windows (names (opening_stores c)) act
 opening_has c act =
     subst (λ os. SomeHas c.windows os act) (sym (opening_named c)) (each_has_store c.windows act)

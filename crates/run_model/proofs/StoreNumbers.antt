@@ -198,7 +198,7 @@ on_some n (v ∷ vs) act =
             on = o.on;
           })
 
--- There is a store of that number.
+-- The number of a line's store is one of the table's 0 and the windows' 1 to their count.
 pub store_inside :
     (vs : List WindowState) (act : Act) → store_of (windows_in vs) act ≤ length vs
 store_inside vs act = at (on_some 1 vs act) where
@@ -295,7 +295,7 @@ on_one w u act differ = at (bus_of act) where
   at None h = refl
   at (Some n) h = not_eqb u.liobn n (λ e. differ (eqb-true w.liobn n h ∙ sym e))
 
--- It differs from one that it is none of.
+-- The two windows have different numbers.
 abbrev Differ : BusWindow → BusWindow → Type 0
 Differ w u = ¬ (w.liobn ≡ u.liobn)
 

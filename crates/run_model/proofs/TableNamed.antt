@@ -55,7 +55,7 @@ unfolding run_quiet_line
 quiet_grants w (acts.Call number args spelt) = resize_grants w (hcall_of number) args
 quiet_grants w other = refl
 
--- So of each line.
+-- A line leaves its store's window as it is.
 pub line_window : (w : Store) (l : TraceLine) → (run_on w l).1.window ≡ w.window
 unfolding run_on
 line_window w l = at (cases_Bool (is_quiet l.act)) where

@@ -6,7 +6,8 @@ use Rattle.std.proofs.Common.{◌≡◌, ℕ, ◌+◌, ◌-◌, ◌*◌, ◌/◌
 use Rattle.std.proofs.lemmas.Bool.{cond_both, and_parts, ltb-true, leb-true}
 use Rattle.std.proofs.lemmas.Nat.{div_below}
 use Rattle.std.proofs.Math.Pow.{pow_mono}
-use Rattle.bus_window.specs.Windows.{BusWindow, IsWindow, entry_at, page_bytes}
+use Rattle.pool_range.specs.Ranges.{page_bytes}
+use Rattle.bus_window.specs.Windows.{BusWindow, IsWindow, entry_at}
 use Rattle.dma_window.specs.Calls.{clear_plan, replace_plan, put_plan_at, get_plan_at, put_tce_plan, get_tce_plan}
 use Rattle.dma_window.specs.Devices.{IsDeviceReplyBy, outcome_of}
 use Rattle.dma_window.specs.Entries.{address_of, permits, first_word, second_word}

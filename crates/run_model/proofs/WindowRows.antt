@@ -41,7 +41,7 @@ one = bus_window 1 0x10000 2
 other : BusWindow
 other = bus_window 2 0x10000 2
 
--- Each with its second page at this state.
+-- The window with this state in its second entry and the first one empty.
 having : BusWindow → State → Store
 having w s = window_store grants 1 (empty_state 0 ∷ s ∷ []) w
 
@@ -74,7 +74,7 @@ putting = record {
       });
 }
 
--- It is on that window, and on no other store.
+-- The H_PUT_TCE is on the window 2, and on no other store.
 on_the_second : is_on (one ∷ []) None put ≡ true
 unfolding put one bus_of hcall_of row_of
 on_the_second = refl

@@ -17,7 +17,7 @@ abbrev pub IsBusyWhereTaken : Hcall → HReply → Type 0
 IsBusyWhereTaken calls.PutTce h = (h.rc ≡ Busy) ↔ HasTaken h.receipts
 IsBusyWhereTaken other h = Unit {0}
 
--- The same of a line.
+-- The line is no H_PUT_TCE, or its reply is H_BUSY exactly where a receipt says Taken.
 abbrev pub BusyWhereTaken : Act → Reply → Type 0
 BusyWhereTaken (acts.Call number args spelt) (replies.Hcall h) =
     IsBusyWhereTaken (hcall_of number) h
@@ -28,7 +28,7 @@ abbrev pub IsNotBusy : Hcall → Rc → Type 0
 IsNotBusy calls.PutTce code = code ≢ Busy
 IsNotBusy other code = Unit {0}
 
--- The same of a line.
+-- The line is no H_PUT_TCE, or its reply's code isn't H_BUSY.
 abbrev pub PutIsNotBusy : Act → Reply → Type 0
 PutIsNotBusy (acts.Call number args spelt) (replies.Hcall h) = IsNotBusy (hcall_of number) h.rc
 PutIsNotBusy act reply = Unit {0}

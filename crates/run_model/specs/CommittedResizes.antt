@@ -44,7 +44,7 @@ pub record LeavesTable (s next : Section) : Type 0 where
       is_committed s.quiet ≡ true → KeepsTranslations (closing_table s) next.before.memory.table
   pub stays : is_committed s.quiet ≡ false → next.before.memory.table ≡ closing_table s
 
--- Each quiet line does.
+-- Each quiet line leaves the next section the table, or a new one with its translations.
 abbrev pub ResizesKeepTranslations : List Section → Type 0
 ResizesKeepTranslations [] = Unit {0}
 ResizesKeepTranslations (s ∷ []) = Unit {0}

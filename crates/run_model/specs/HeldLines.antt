@@ -12,7 +12,7 @@ use Rattle.tlb_model.specs.Processor.{Processor}
 abbrev pub Holding : List State → Line → Type 0
 Holding states line = Holds line (state_at states line.entry)
 
--- Each line that a processor has cached does.
+-- Each line that a processor has cached holds of its entry's state.
 abbrev pub AllHold : List State → List Processor → Type 0
 AllHold states processors =
     AllByRecursion (λ (p : Processor). AllCached (Holding states) p.cache) processors

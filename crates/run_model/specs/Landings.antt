@@ -62,7 +62,7 @@ LandsByItsEntry granted order p (acts.Access want ea user) (replies.Access r) =
     Lands granted order ea (segment_of p.slots ea) (found_of r.receipts) r.outcome
 LandsByItsEntry granted order p act reply = Unit {0}
 
--- Each access of a section lands so.
+-- Each access of the section lands by its entry, in a table of the section's order.
 abbrev pub AccessesLand : GrantedMemory → Section → Type 0
 AccessesLand granted s =
     EachLine

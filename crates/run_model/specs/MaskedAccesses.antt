@@ -33,7 +33,7 @@ IsMaskedByItsEntry p (acts.Access want ea user) (replies.Access r) =
     (found_of r.receipts)
 IsMaskedByItsEntry p act reply = Unit {0}
 
--- So of each access of a section.
+-- In a section masks refuse exactly the accesses whose last receipts say so.
 abbrev pub MasksRefuse : Section → Type 0
 MasksRefuse s = EachLine (λ p t. IsMaskedByItsEntry p t.line.act t.reply) s
 
@@ -54,6 +54,6 @@ pub record IsUnmasked (p : Processor) (t : RepliedLine) : Type 0 where
   pub masks : p.masks ≡ no_masks
   pub answers : HasNoMasked t.line.act t.reply
 
--- So of each line of a section.
+-- On each line of the section both masks are 0, and no entry answers an access Masked.
 abbrev pub NoneIsMasked : Section → Type 0
 NoneIsMasked s = EachLine IsUnmasked s

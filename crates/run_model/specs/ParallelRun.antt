@@ -44,7 +44,7 @@ pub record WorksLine
         (λ line. AllLater line (receipts_in t.reply))
     pub gone : IfSome (gone_line_of processor t.line.act t.reply) (IsGone later)
 
--- Its lines, one after the other.
+-- The processor works off its lines, one after the other, from these fronts to those.
 abbrev pub Works :
     StoreContext → List ℕ → Processor → List RepliedLine → List ℕ → Type 0
 Works context fronts processor [] later = later ≡ fronts

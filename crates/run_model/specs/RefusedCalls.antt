@@ -167,7 +167,7 @@ OpensOnRest s next =
     (λ q. is_refused q.line.act q.reply ≡ true
     → LeavesRun q.line.act q.reply (closing s) next.before)
 
--- So does each.
+-- Each section behind a refused quiet line opens on what that left of the one before it.
 abbrev pub RefusedQuietLinesLeave : List Section → Type 0
 RefusedQuietLinesLeave [] = Unit {0}
 RefusedQuietLinesLeave (s ∷ []) = Unit {0}

@@ -64,7 +64,7 @@ section_end s ts = section_end_on s ts (states_behind s ts)
 abbrev pub closing : Section → Store
 closing s = section_end s.before s.replied_lines
 
--- The same where it closes on these states.
+-- The store behind a section that closes on these states.
 abbrev pub closing_on : Section → List State → Store
 closing_on s states = section_end_on s.before s.replied_lines states
 

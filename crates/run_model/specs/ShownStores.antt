@@ -82,7 +82,7 @@ ShowsClearedBits (acts.Call number args spelt) (replies.Hcall h) =
     AllByRecursion (ShowsWhatItClears (hcall_of number) h.words) h.receipts
 ShowsClearedBits act reply = Unit {0}
 
--- So does each reply of a section.
+-- Each reply to a call of the section shows each C that its receipts clear.
 abbrev pub ClearedBitsAreShown : Section → Type 0
 ClearedBitsAreShown s = EachLine (λ p t. ShowsClearedBits t.line.act t.reply) s
 

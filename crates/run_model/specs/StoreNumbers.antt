@@ -49,7 +49,7 @@ store_of ws act = store_from 1 ws act
 abbrev pub lines_on_store : List BusWindow → ℕ → List TraceLine → List TraceLine
 lines_on_store ws store lines = filter (λ (l : TraceLine). store_of ws l.act == store) lines
 
--- The same lines with their replies.
+-- The lines on a store with their replies, in file order.
 abbrev pub replied_on_store : List BusWindow → ℕ → List RepliedLine → List RepliedLine
 replied_on_store ws store ts =
     filter (λ (t : RepliedLine). store_of ws t.line.act == store) ts

@@ -103,6 +103,6 @@ is_on ws (Some w) act = is_on_window w act
 abbrev pub lines_on : (Act → Bool) → List RepliedLine → List RepliedLine
 lines_on on ts = filter (λ (t : RepliedLine). on t.line.act) ts
 
--- The same of lines without replies.
+-- Of these lines, without replies, those on a store, in file order.
 abbrev pub trace_lines_on : (Act → Bool) → List TraceLine → List TraceLine
 trace_lines_on on ls = filter (λ (l : TraceLine). on l.act) ls

@@ -79,7 +79,7 @@ impl WindowEntries {
     }
 }
 
-/// These windows, each with all entries empty.
+/// The windows with all entries empty, as a run opens them.
 pub fn open_windows(alloc: Global, windows: &[Window]) -> Result<Vec<WindowEntries>, AllocError>
     ensures { IfOk result (λ all. all.items ≡ map opened windows.now) }
 {

@@ -17,7 +17,8 @@ pub record KeepsCall (plan : Plan) (w : Working) (b : Busy) : Type 0 where
   pub held_up : IsHeldPlan plan w.receipts b
   pub told : w.busy ≡ b
 
--- The same of a walk on a table of 2 ^ order bytes.
+-- What it has to go on with is this very walk, on a table of 2 ^ order bytes. Its receipts are of
+-- the walk's first operations, and the next one is busy, which it tells.
 pub record KeepsWalk (order : ℕ) (walk : PageWalk) (w : Working) (b : Busy) : Type 0 where
   pub pending : w.pending ≡ Walk walk
   pub held_up : IsHeldWalk order walk w.receipts b

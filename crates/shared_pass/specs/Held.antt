@@ -26,7 +26,7 @@ abbrev pub HeldFits : ℕ → HeldCall → Type 0
 HeldFits order (Tries trial) = IsTrialIn order trial
 HeldFits order (Removes named pairs) = named ≡ order
 
--- There is nothing to go on with.
+-- Nothing is pending.
 abbrev pub is_nothing : Pending → Bool
 is_nothing pending.Nothing = true
 is_nothing other = false

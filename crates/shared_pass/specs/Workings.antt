@@ -12,7 +12,7 @@ use Rattle.shared_pass.specs.Shares.{has_all, IsOpened, IsSplit, IsJoined}
 abbrev pub has_all_shares : Working → Bool
 has_all_shares w = has_all w.sharer
 
--- It has nothing to go on with.
+-- The pass has nothing to go on with.
 abbrev pub is_free : Working → Bool
 is_free w = is_nothing w.pending
 

@@ -27,7 +27,7 @@ impl<T, A: Allocator> Parts<T, A> {
         Parts { ptr, alloc }
     }
 
-    /// Puts it together.
+    /// Puts the box together again.
     pub fn into_box(self) -> Box<T, A>
         ensures { result.value ≡ self.value }
     {

@@ -23,7 +23,7 @@ impl Model for WorkingPointer {
 }
 
 impl WorkingPointer {
-    /// Nothing.
+    /// The pointer to nothing: no call is held up.
     pub(crate) fn none(alloc: Global) -> WorkingPointer
         ensures { result.held ≡ None }
     {
@@ -61,7 +61,7 @@ impl WorkingPointer {
         WorkingPointer::of_parts(Parts::of(working))
     }
 
-    /// The box.
+    /// The box that the pointer holds.
     pub(crate) fn into_box(self) -> Box<Working>
         requires { is_some self.held ≡ true }
         ensures { self.held ≡ Some result.value }

@@ -87,7 +87,7 @@ slot_with rb rs shift =
 unfoldable pub slot_of_words : ℕ → ℕ → Option Slot
 slot_of_words rb rs = option_map (slot_with rb rs) (base_shift_of rs)
 
--- Its parts are in range.
+-- The parts of a slot are in their ranges.
 pub record IsSlot (slot : Slot) : Type 0 where
   pub esid : slot.esid < 2 ^ 36
   pub vsid : IsTrue (is_vsid slot.one_tb slot.vsid)

@@ -42,7 +42,7 @@ fn word_of(layout: Layout) -> &'static str
     }
 }
 
-/// The first line.
+/// Appends the image's first line.
 #[tactic(auto, unfolding(crate::specs::Image::image_head))]
 fn put_head(out: &mut String, layout: Layout, order: u8, count: usize) -> Result<(), AllocError>
     ensures { OnOk
@@ -56,7 +56,7 @@ fn put_head(out: &mut String, layout: Layout, order: u8, count: usize) -> Result
     out.push_str("\n")
 }
 
-/// An entry's line.
+/// Appends the line of an entry.
 fn put_line(out: &mut String, index: u32, digits: &[u8; 32]) -> Result<(), AllocError>
     requires { IsAscii digits.now }
     ensures { OnOk

@@ -11,7 +11,7 @@ abbrev pub AreApart : List Line → Type 0
 AreApart [] = Unit {0}
 AreApart (line ∷ lines) = AllInSet (λ other. is_of line.page other ≡ false) lines × AreApart lines
 
--- There are at most four lines, each of another page.
+-- A set has at most four lines, each of another page.
 pub record IsLineSet (lines : List Line) : Type 0 where
   pub count : length lines ≤ 4
   pub apart : AreApart lines
@@ -20,7 +20,7 @@ pub record IsLineSet (lines : List Line) : Type 0 where
 abbrev pub IsForSet : ℕ → List Line → Type 0
 IsForSet number lines = AllInSet (λ line. set_number line.page ≡ number) lines
 
--- There are 32 sets, each line in the set of its page.
+-- A cache has 32 sets, and each line is in the set of its page.
 pub record IsCache (cache : List (List Line)) : Type 0 where
   pub count : length cache ≡ 32
   pub placed : (number : ℕ) → IsForSet number (slice_index_or cache number [])

@@ -57,7 +57,7 @@ most_lines = 2 ^ 17
 abbrev pub most_quiet_lines : ℕ
 most_quiet_lines = 256
 
--- And at most so many of these are dumps.
+-- At most so many of the quiet lines are dumps.
 abbrev pub most_dumps : ℕ
 most_dumps = 16
 

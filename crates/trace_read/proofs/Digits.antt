@@ -17,7 +17,7 @@ pub record AreRead (base : ℕ) (word : List ℕ) (i value : ℕ) : Type 0 where
   pub value_is : value ≡ digits_value base (take i word)
   pub small : value < base ^ i
 
--- So many digits write no more.
+-- So many digits of a base write a number below that power of the base.
 pub AreRead-below : (base most : ℕ) (word : List ℕ) (i value : ℕ) → 0 < base → i ≤ most
     → AreRead base word i value → value < base ^ most
 AreRead-below base most word i value some few read =
@@ -30,7 +30,7 @@ next_small v base i d h k =
     let power : base ^ (i + 1) ≡ base ^ i * base = rw add-one (pow-suc base i) in
     omega arith
 
--- One digit more.
+-- With one digit more the value is the base's multiple of the old one and the digit.
 pub AreRead-more : (base : ℕ) (word : List ℕ) (i value d : ℕ) → i < length word
     → d ≡ digit_value (get_or word i 0)
     → d < base

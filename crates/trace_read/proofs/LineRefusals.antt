@@ -176,7 +176,7 @@ tables_name_a_grant r ws e = (text_fitting r ws).reasons whys.Tables e
 abbrev is_partition : Why → Bool
 is_partition why = is_apart why && not (is_tables why)
 
--- So it is where there is a reason at all.
+-- The trace is refused, for a reason that is a partition's.
 abbrev asks_partition : Result AcceptedTrace (ℕ × Why) → Bool
 asks_partition (Ok t) = false
 asks_partition (Err x) = is_partition x.1

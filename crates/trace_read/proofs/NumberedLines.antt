@@ -18,7 +18,7 @@ remark_taken :
 unfolding after_line after_text
 remark_taken r few = rw (lt-ltb r.taken most_lines few) refl
 
--- So many remarks are read.
+-- Remarks add nothing but their count.
 remarks_taken : (count : ℕ) (r : Reading) (rest : List (List ℕ)) → r.taken + count ≤ most_lines
     → after_lines r (remarks count ++ rest)
     ≡ after_lines (record r { taken = r.taken + count }) rest

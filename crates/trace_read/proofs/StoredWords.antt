@@ -111,7 +111,7 @@ same_stored grants h l m page control second is =
           ∙ is.suits;
     }
 
--- So are doublewords with R and C put in.
+-- Doublewords that are stored as they are stay so when R and C are put in.
 pub put_stored :
     (grants : List Grant) (dword0 dword1 : ℕ) (referenced changed : Bool)
     → AreStored grants dword0 dword1

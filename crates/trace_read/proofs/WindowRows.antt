@@ -99,7 +99,7 @@ behind_an_entry :
 unfolding windows_on_literals
 behind_an_entry = refl
 
--- It is a setting.
+-- A `window` line gives a setting.
 gives_setting : given_of default_settings (words_of (codes "window 1 0 1")) ≡ Setting
 unfolding windows_on_literals
 gives_setting = refl

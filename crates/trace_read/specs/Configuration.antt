@@ -46,7 +46,7 @@ pub record AreSettings
     pub base : granted.pool_base ≡ pool_base
     pub size : granted.pool_order ≡ pool_order
 
--- And the pool has room for the opening table.
+-- The settings may be, and the pool has room for the opening table.
 pub record IsConfigured
     (order limit cpus pool_base pool_order : ℕ)
     (granted : GrantedMemory)

@@ -102,7 +102,7 @@ abbrev pub IsNamedVerb : Verb → Type 0
 IsNamedVerb (verbs.Named hcall args) = IsTrue (is_named hcall)
 IsNamedVerb other = Unit {0}
 
--- So does the form.
+-- The form's verb names a call that has a name, if it names one.
 abbrev pub IsNamedForm : Form → Type 0
 IsNamedForm (forms.Run (Some verb)) = IsNamedVerb verb
 IsNamedForm other = Unit {0}

@@ -23,7 +23,7 @@ is_setting_form (forms.Run verb) = false
 is_setting_form forms.Dump = false
 is_setting_form other = true
 
--- So it is where there is a form at all.
+-- The line has a form, and it is of the configuration.
 abbrev pub is_setting_if : Result Form Why → Bool
 is_setting_if (Ok form) = is_setting_form form
 is_setting_if (Err why) = false
@@ -46,7 +46,7 @@ given_by (forms.Run verb) c ws = givens.Run
 given_by forms.Dump c ws = givens.Run
 given_by other c ws = givens.Setting
 
--- So it does where there is a form at all.
+-- What a line gives, if it has a form; a line without one gives nothing.
 abbrev pub given_if : Result Form Why → Configuration → List (List ℕ) → Given
 given_if (Ok form) c ws = given_by form c ws
 given_if (Err why) c ws = givens.Remark

@@ -11,7 +11,7 @@ abbrev pub AreNumbered : ℕ → List (ℕ × List ℕ) → Type 0
 AreNumbered taken [] = Unit {0}
 AreNumbered taken (x ∷ xs) = (taken < x.0) × (x.0 ≤ most_lines) × AreNumbered x.0 xs
 
--- So many remarks, each of the byte `#` alone.
+-- As many remarks as this, each of the byte `#` alone.
 abbrev pub remarks : ℕ → List (List ℕ)
 remarks count = replicate count (35 ∷ [])
 

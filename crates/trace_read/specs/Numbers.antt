@@ -17,7 +17,7 @@ digits_number base most ds =
     then Some (digits_value base ds)
     else None
 
--- It begins with `0x` or `0X`.
+-- The word begins with `0x` or `0X`.
 abbrev pub has_hex_prefix : List ℕ → Bool
 has_hex_prefix word =
     nat_lt 1 (length word)

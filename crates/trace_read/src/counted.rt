@@ -32,7 +32,7 @@ impl Model for CountedLines {
 }
 
 impl CountedLines {
-    /// No line.
+    /// A list without lines.
     pub fn new(alloc: Global) -> Self
         ensures { result ≡ [] }
     {
@@ -82,7 +82,7 @@ impl CountedLines {
         self.lines.as_slice().len()
     }
 
-    /// The lines alone.
+    /// The lines, without their counts.
     pub fn into_lines(self) -> TraceLines
         ensures { result ≡ self }
     {

@@ -146,7 +146,7 @@ impl Settings {
         Ok(())
     }
 
-    /// One more grant.
+    /// Adds a grant.
     #[tactic(auto, unfolding(frame_grants::specs::Grants::with_grant))]
     pub fn add_grant(&mut self, grant: Grant) -> Result<(), Why>
         requires { self.old.entries ≡ [] }

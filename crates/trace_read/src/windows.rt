@@ -27,7 +27,7 @@ impl Model for WindowLines {
 }
 
 impl WindowLines {
-    /// No window.
+    /// A list without windows.
     pub fn new() -> Self
         ensures { result ≡ [] }
     {

@@ -72,7 +72,7 @@ own_again :
 own_again cpu [] h = refl
 own_again cpu (l ∷ ls) h = rw h.0 (ap (λ ms. l ∷ ms) (own_again cpu ls h.1))
 
--- So those of its own lines are these.
+-- Of a processor's own lines all are its own.
 pub own_of_own :
     (cpu : ℕ) (lines : List TraceLine)
     → lines_of_cpu cpu (lines_of_cpu cpu lines) ≡ lines_of_cpu cpu lines

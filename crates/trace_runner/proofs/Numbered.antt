@@ -136,7 +136,7 @@ all_at P n m zero (y ∷ ys) x e low is h = let same :
 all_at P n m (suc i) (y ∷ ys) x e low is h =
     all_at P (suc n) m i ys x (omega (arith, e)) (omega (arith, low)) is h.1
 
--- There is one of each number, with its fact.
+-- At an index of the list there is an element, with the fact of its number.
 pub all_has :
     {A : Type 0} (P : ℕ → A → Type 0) (n i : ℕ) (xs : List A)
     → i < length xs

@@ -79,7 +79,7 @@ module _ {L : Type 0} (keeps : Keeping L) (set : StoreContext) (table : LockTabl
   abbrev pub a : List State
   a = table.opening.items
 
-  -- It is done, and its lines are its own among all.
+  -- The processor is done, and its own lines among all are those with its replies.
   abbrev pub IsPart : ℕ → Worker L → Type 0
   IsPart cpu w =
       DoneWith keeps set table lines cpu (picks cpu) w

@@ -87,7 +87,7 @@ pub not_empty : (lines : List TraceLine) → eqb (length lines) 0 ≡ false → 
 not_empty [] h e = absurd (let clash : true ≡ false = h in cc)
 not_empty (l ∷ ls) h e = cc
 
--- As many have a pass as have a line.
+-- As many processors have a pass as have a line.
 pub passes_are :
     {L : Type 0} (keeps : Keeping L) (set : StoreContext) (table : LockTable)
     (lines : List TraceLine) (ws : List (Worker L))

@@ -336,7 +336,7 @@ done_more s later next after lines start i d rs news r low within h m sect q tol
           (h.goes named (news ++ r ∷ more) ran);
     }
 
--- The last section.
+-- The lines from the last quiet line to the end have run.
 pub record Ended (s : AllStores) (lines : List TraceLine) (rs : List Reply) : Type 0 where
   pub kinds : AreNamed s → AreReplies lines rs
   pub runs : AreNamed s → Runs s (lines_with_replies lines rs)

@@ -91,7 +91,7 @@ none_ran keeps s number =
       stays = record { windows = refl; processors = refl; number = refl };
     }
 
--- The page table.
+-- When the lines on the page table have run, the first store is done.
 pub table_ran :
     {L : Type 0} (keeps : Keeping L) (s later : AllStores) (lines : List TraceLine)
     (closing : List State) (logs : List L)

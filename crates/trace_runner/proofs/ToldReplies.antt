@@ -113,7 +113,7 @@ Told ws store cpu ts rest rs all =
 abbrev pub rest_after : ℕ → List Reply → (ℕ → List Reply) → ℕ → List Reply
 rest_after at ss rs cpu = cond (eqb at cpu) ss (rs cpu)
 
--- And of each store's.
+-- What is left behind the line of each processor's replies on each store.
 abbrev pub stores_after : ℕ → ℕ → List Reply → (ℕ → ℕ → List Reply) → ℕ → ℕ → List Reply
 stores_after at cpu ss rs store = cond (eqb at store) (rest_after cpu ss (rs store)) (rs store)
 

@@ -79,7 +79,7 @@ pub record RunsStore
         → HavePicked lines picks ts
         → later ≡ processors_after_lines 0 processors ts
 
--- The same for some picked replies.
+-- Processors ran these lines on a store, with some picked replies in their logs.
 abbrev pub RanStore :
     {L : Type 0}
     → Keeping L

@@ -32,7 +32,7 @@ pub record KeepsText
     pub cut : IsUtf8 front
     pub texts : EndsBehind front bytes ends ls rs
 
--- It is the text of the replies to these lines.
+-- The bytes are the text of the replies to these lines.
 pub record HasText (bytes : List ℕ) (ls : List TraceLine) (rs : List Reply) : Type 0 where
   pub count : length ls ≡ length rs
   pub text : bytes ≡ text_from ls rs

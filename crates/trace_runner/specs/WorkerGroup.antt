@@ -7,7 +7,7 @@ use Rattle.trace_runner.specs.declared.worker.Worker.{Worker}
 use Rattle.trace_runner.specs.Workers.{Keeping, IsReady, IsDone, AllNumbered, processors_before}
 use Rattle.trace_read.specs.Configuration.{most_processors}
 
--- There is one, and they are ready, the first as the processor of this number.
+-- There is a worker, and all are ready, the first as the processor of this number.
 pub record IsReadyGroup
     {L : Type 0}
     (keeps : Keeping L)
@@ -23,7 +23,7 @@ pub record IsReadyGroup
     pub few : first + length ws ≤ most_processors
     pub ready : AllNumbered (λ cpu w. IsReady keeps room_in context table cpu lines w) first ws
 
--- They have run their lines, each at its place.
+-- The workers have run their lines, each as the processor of its number.
 pub record RunsGroup
     {L : Type 0}
     (keeps : Keeping L)

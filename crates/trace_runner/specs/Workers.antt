@@ -40,7 +40,7 @@ pub record IsReadAt (lines : List TraceLine) (indices : List ℕ) (own : List Tr
 abbrev pub AreOwn : List TraceLine → ℕ → List ℕ → Type 0
 AreOwn lines cpu indices = IsReadAt lines indices (lines_of_cpu cpu lines)
 
--- Each with its reply.
+-- The processor's own lines among these, each with its reply.
 abbrev pub replied_lines_of_cpu : ℕ → List TraceLine → List Reply → List RepliedLine
 replied_lines_of_cpu cpu lines replies = lines_with_replies (lines_of_cpu cpu lines) replies
 
@@ -165,7 +165,7 @@ abbrev pub AreReady :
 AreReady keeps room_in context table lines ws =
     AllNumbered (λ cpu w. IsReady keeps room_in context table cpu lines w) 0 ws
 
--- All are done.
+-- All workers are done, the first as processor 0.
 abbrev pub AreDone :
     {L : Type 0}
     → Keeping L → StoreContext → LockTable → List TraceLine → List (Worker L) → Type 0

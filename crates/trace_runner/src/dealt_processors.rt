@@ -8,7 +8,7 @@ ghost use Rattle.trace_read.specs.Configuration.{most_processors};
 use std::alloc::{AllocError, Global};
 use trace_line::TraceLine;
 
-/// So many empty lists.
+/// Empty lists, this many.
 pub fn empty_lists<T: Drop>(alloc: Global, count: usize) -> Result<Vec<Vec<T>>, AllocError>
     ensures size { IfOk result (λ lists. length lists.items ≡ count) }
     ensures empty { IfOk result (λ lists. AllEmpty lists.items) }

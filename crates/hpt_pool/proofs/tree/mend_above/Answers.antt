@@ -39,7 +39,7 @@ other-requires-clause-index c =
     let small = stands.small in
     omega arith
 
--- The other half.
+-- The other half of the block above is in the list of nodes too.
 stand_other :
     (c : goal.After-other)
     → (c.other.result < length c.loop-spot.nodes) × (length c.loop-spot.nodes < 2 ^ 32)

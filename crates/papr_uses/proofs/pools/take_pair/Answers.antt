@@ -9,7 +9,7 @@ held : (old new : PoolState) (b : Block) → new ≡ with_block old b → Contai
 held old new b taken =
     subst (λ (p : PoolState). Contains p.taken b) (sym taken) (with_contains old.taken b)
 
--- And stays when another one is taken.
+-- A block stays taken when another one is taken.
 stays :
     (old new : PoolState) (b kept : Block)
     → new ≡ with_block old b

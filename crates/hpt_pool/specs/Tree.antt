@@ -1,5 +1,6 @@
 -- The tree over a pool's leaves of 2 ^ 18 bytes, and the taken blocks that it stands for.
 use Rattle.std.specs.Prelude.{◌≡◌, ◌<◌, ℕ, zero, suc, ◌+◌, ◌-◌, ◌^◌, max, List, [], ◌∷◌, ◌++◌, length, slice_index_or, slice_range}
+use Rattle.pool_range.specs.Ranges.{least_pool_order}
 use Rattle.hpt_pool.specs.Pool.{Block, block_at, PoolState, IsSound}
 use Rattle.hpt_pool.specs.Free.{IsLargestFree}
 use Rattle.hpt_pool.specs.declared.tree.Node.{Node}
@@ -26,18 +27,18 @@ block_or (Open largest) block below = below
 
 -- The taken blocks of the tree whose first leaf is at this place, from the left to the right.
 unfoldable pub blocks_below : ℕ → ℕ → List Node → List Block
-blocks_below zero place nodes = block_or (root_of nodes) (block_at place 18) []
+blocks_below zero place nodes = block_or (root_of nodes) (block_at place least_pool_order) []
 blocks_below (suc height) place nodes =
-    block_or (root_of nodes) (block_at place (18 + suc height))
+    block_or (root_of nodes) (block_at place (least_pool_order + suc height))
     (blocks_below height place (left_of (suc height) nodes)
-    ++ blocks_below height (place + 2 ^ (18 + height)) (right_of (suc height) nodes))
+    ++ blocks_below height (place + 2 ^ (least_pool_order + height)) (right_of (suc height) nodes))
 
 -- The blocks of the two halves, which a taken root would hide.
 unfoldable pub hidden_blocks : ℕ → ℕ → List Node → List Block
 hidden_blocks zero place nodes = []
 hidden_blocks (suc height) place nodes =
     blocks_below height place (left_of (suc height) nodes)
-    ++ blocks_below height (place + 2 ^ (18 + height)) (right_of (suc height) nodes)
+    ++ blocks_below height (place + 2 ^ (least_pool_order + height)) (right_of (suc height) nodes)
 
 -- ---- what the nodes say
 -- The largest order of a free block below the node, or 0 where none is free.
@@ -53,10 +54,10 @@ free_below (Open largest) order = largest
 
 -- Each node says the truth of the blocks below it, whose places count from its first leaf.
 unfoldable pub IsTruthful : ℕ → List Node → Type 0
-IsTruthful zero nodes = IsLargestFree [] 0 0 (free_below (root_of nodes) 18)
+IsTruthful zero nodes = IsLargestFree [] 0 0 (free_below (root_of nodes) least_pool_order)
 IsTruthful (suc height) nodes =
     IsLargestFree (hidden_blocks (suc height) 0 nodes) (suc height) 0
-    (free_below (root_of nodes) (18 + suc height))
+    (free_below (root_of nodes) (least_pool_order + suc height))
     × IsTruthful height (left_of (suc height) nodes)
     × IsTruthful height (right_of (suc height) nodes)
 
@@ -76,9 +77,13 @@ pub record IsTree (height : ℕ) (nodes : List Node) : Type 0 where
 -- The pool whose taken blocks are the tree's.
 abbrev pub tree_pool : ℕ → ℕ → List Node → PoolState
 tree_pool base order nodes =
-    record { base = base; order = order; taken = blocks_below (order - 18) base nodes }
+    record {
+      base = base;
+      order = order;
+      taken = blocks_below (order - least_pool_order) base nodes;
+    }
 
 -- The tree has the pool's leaves, and its blocks are sound.
 pub record IsTreePool (base order : ℕ) (nodes : List Node) : Type 0 where
   pub sound : IsSound (tree_pool base order nodes)
-  pub tree : IsTree (order - 18) nodes
+  pub tree : IsTree (order - least_pool_order) nodes

@@ -1,5 +1,6 @@
 ghost use Rattle.std.specs.Prelude.{◌≡◌, ◌+◌, ◌*◌, ◌/◌, ◌%◌, ◌<◌, ◌≤◌, ◌^◌};
 ghost use Rattle.hpt_pool.specs.Way.{IsHalf, IsWay};
+ghost use Rattle.pool_range.specs.Ranges.{least_pool_order};
 
 use crate::tree::LEAF_ORDER;
 
@@ -123,7 +124,7 @@ impl Spot {
     /// The bytes of its block.
     pub fn bytes(self) -> u64
         requires { self.height ≤ 16 }
-        ensures { result ≡ 2 ^ (18 + self.height) }
+        ensures { result ≡ 2 ^ (least_pool_order + self.height) }
     {
         1 << (LEAF_ORDER + self.height)
     }

@@ -6,10 +6,11 @@ ghost use Rattle.hpt_pool.specs.Free.{IsFirstFree};
 ghost use Rattle.pool_range.specs.Ranges.{address_end, least_pool_order};
 
 use crate::spot::Spot;
+use pool_range::LEAST_ORDER;
 use std::alloc::{AllocError, Global};
 
 /// A leaf, the smallest part that is handed out, has `2^18` bytes.
-pub const LEAF_ORDER: u8 = 18;
+pub const LEAF_ORDER: u8 = LEAST_ORDER;
 
 /// What a node of the tree says of its block.
 #[derive(Clone, Copy)]
@@ -36,7 +37,9 @@ impl Node {
 pub fn free_nodes(alloc: Global, height: u8) -> Result<Vec<Node>, AllocError>
     requires { height ≤ 16 }
     ensures tree { IfOk result (λ nodes. IsTree height nodes.items) }
-    ensures free { IfOk result (λ nodes. largest_of (root_of nodes.items) ≡ 18 + height) }
+    ensures free { IfOk
+        result
+        (λ nodes. largest_of (root_of nodes.items) ≡ least_pool_order + height) }
 {
     let mut nodes = vec![in alloc; Node::Taken; half_of(height + 1) - 1]?;
     free_all(&mut nodes, height);
@@ -48,7 +51,7 @@ fn free_all(nodes: &mut [Node], height: u8)
     requires most { height ≤ 16 }
     requires whole { length nodes.old + 1 ≡ 2 ^ (height + 1) }
     ensures tree { IsTree height nodes.new }
-    ensures free { largest_of (root_of nodes.new) ≡ 18 + height }
+    ensures free { largest_of (root_of nodes.new) ≡ least_pool_order + height }
 {
     nodes[0] = Node::Open(LEAF_ORDER + height);
     if height > 0 {
@@ -62,7 +65,7 @@ fn free_all(nodes: &mut [Node], height: u8)
 pub fn take_first(nodes: &mut [Node], height: u8, place: u64, order: u8) -> u64
     requires tree { IsTree height nodes.old }
     requires most { height ≤ 16 }
-    requires top { place + 2 ^ (18 + height) ≤ address_end }
+    requires top { place + 2 ^ (least_pool_order + height) ≤ address_end }
     requires least { least_pool_order ≤ order }
     requires some { order ≤ largest_of (root_of nodes.old) }
     ensures first { IsFirstFree (blocks_below height place nodes.old) height place order result }
@@ -89,7 +92,7 @@ pub fn take_first(nodes: &mut [Node], height: u8, place: u64, order: u8) -> u64
 pub fn give_back(nodes: &mut [Node], height: u8, place: u64, given: u64, order: u8)
     requires tree { IsTree height nodes.old }
     requires most { height ≤ 16 }
-    requires top { place + 2 ^ (18 + height) ≤ address_end }
+    requires top { place + 2 ^ (least_pool_order + height) ≤ address_end }
     requires least { least_pool_order ≤ order }
     requires taken { Contains (blocks_below height place nodes.old) (block_at given order) }
     ensures given { blocks_below height place nodes.new

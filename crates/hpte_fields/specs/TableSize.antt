@@ -1,13 +1,14 @@
 -- The size of a hashed page table: entries of 16 bytes, in groups of eight.
 use Rattle.std.specs.Prelude.{ℕ, ◌-◌, ◌^◌, ◌≤◌, ◌&&◌, Bool, nat_le}
+use Rattle.pool_range.specs.Ranges.{least_pool_order, greatest_pool_order}
 
--- The order of the smallest table, which has 2 ^ 18 bytes.
+-- The order of the smallest table, which fills the smallest range of a pool.
 abbrev pub least_order : ℕ
-least_order = 18
+least_order = least_pool_order
 
--- The order of the largest table, which has 2 ^ 34 bytes.
+-- The order of the largest table, which fills the largest range.
 abbrev pub greatest_order : ℕ
-greatest_order = 34
+greatest_order = greatest_pool_order
 
 -- A table may have 2 ^ order bytes.
 abbrev pub IsTableOrder : ℕ → Type 0

@@ -5,7 +5,8 @@ ghost use Rattle.hpte_fields.specs.TableSize.{greatest_architected_order, greate
 ghost use Rattle.hpte_fields.specs.Fields as fields;
 
 use crate::bits::{BOLTED, CHANGED, REFERENCED, SECONDARY, TAG, VALID};
-use crate::table_size::{GREATEST_ARCHITECTED_ORDER, GREATEST_ORDER, GROUP_SIZE, LEAST_ORDER};
+use crate::table_size::{GREATEST_ARCHITECTED_ORDER, GROUP_SIZE};
+use pool_range::{GREATEST_ORDER, LEAST_ORDER};
 
 /// Each constant is the bit, the mask or the number of the definitions.
 pub fn constants_are_as_defined()

@@ -13,9 +13,9 @@ mod table_size;
 pub use bits::{BOLTED, CHANGED, REFERENCED, SECONDARY, TAG, VALID};
 pub use first::{bolted, one_tb, secondary, tag_of};
 pub use laws::constants_are_as_defined;
+pub use pool_range::{GREATEST_ORDER, LEAST_ORDER};
 pub use second::{frame, key, no_execute, pp, protected, wimg};
 pub use stored::normal;
 pub use table_size::{
-    GREATEST_ARCHITECTED_ORDER, GREATEST_ORDER, GROUP_SIZE, LEAST_ORDER, entry_count,
-    is_architected_order, is_table_order,
+    GREATEST_ARCHITECTED_ORDER, GROUP_SIZE, entry_count, is_architected_order, is_table_order,
 };

@@ -1,14 +1,10 @@
 ghost use Rattle.std.specs.Prelude.{◌≡◌, ◌≤◌};
 ghost use Rattle.hpte_fields.specs.TableSize as table;
 
+use pool_range::{GREATEST_ORDER, LEAST_ORDER};
+
 /// The entries of a page table entry group (PTEG).
 pub const GROUP_SIZE: u32 = 8;
-
-/// The order of the smallest table: it has 2^18 bytes.
-pub const LEAST_ORDER: u8 = 18;
-
-/// The order of the largest table: it has 2^34 bytes, and its 2^30 entries are counted by a `u32`.
-pub const GREATEST_ORDER: u8 = 34;
 
 /// The order of the largest table that the architecture has. A guest may ask for such a one.
 pub const GREATEST_ARCHITECTED_ORDER: u8 = 46;

@@ -3,12 +3,13 @@ ghost use Rattle.hpt_pool.specs.Pool.{block_at};
 ghost use Rattle.pool_range.specs.Ranges.{least_pool_order};
 
 use hpt_pool::Pool;
+use pool_range::LEAST_ORDER;
 use rand_core::{Rng, SeedableRng};
 use rand_xoshiro::Xoshiro256PlusPlus;
 use std::alloc::{AllocError, Global};
 
 /// The smallest block has `2^18` bytes.
-const LEAF_ORDER: u8 = 18;
+const LEAF_ORDER: u8 = LEAST_ORDER;
 
 /// What of a pool is taken before its calls.
 #[derive(Clone, Copy)]

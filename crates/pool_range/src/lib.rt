@@ -6,4 +6,4 @@
 
 mod range;
 
-pub use range::{ADDRESS_END, PAGE_BYTES, PoolRange, RangeError};
+pub use range::{ADDRESS_END, GREATEST_ORDER, LEAST_ORDER, PAGE_BYTES, PoolRange, RangeError};

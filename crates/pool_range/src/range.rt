@@ -7,10 +7,12 @@ pub const ADDRESS_END: u64 = 1 << 60;
 /// The bytes of a page: grants consist of whole pages, and so do DMA windows.
 pub const PAGE_BYTES: u64 = 4096;
 
-/// The least order, of 256 KB, and the greatest, of 16 GB.
-const LEAST: u64 = 18;
+/// The order of the smallest range, and of the smallest table: it has 2^18 bytes.
+pub const LEAST_ORDER: u8 = 18;
 
-const GREATEST: u64 = 34;
+/// The order of the largest range, and of the largest table: it has 2^34 bytes, and a table of it
+/// 2^30 entries, which a `u32` counts.
+pub const GREATEST_ORDER: u8 = 34;
 
 /// Why two numbers are no range for page tables.
 #[derive(Clone, Copy, PartialEq, Eq, Debug)]
@@ -44,7 +46,7 @@ impl PoolRange {
         ensures base { IfOk result (λ range. range.base ≡ base) }
         ensures order { IfOk result (λ range. range.order ≡ order) }
     {
-        if order < LEAST || order > GREATEST {
+        if order < u64::from(LEAST_ORDER) || order > u64::from(GREATEST_ORDER) {
             return Err(RangeError::Order);
         }
         let size = size_of(order);

@@ -7,11 +7,12 @@ use crate::tce::{address, is_ram, permits, tce_of};
 use bus_window::Window;
 use entry_model::{DeviceOutcome, DeviceReply, EntryStore, Op, Receipts};
 use frame_grants::Grants;
+use page_grants::GrantedMemory;
 use pool_range::PAGE_BYTES;
 
 /// Where a device's access ends by the page's TCE.
-fn outcome_by(grants: &Grants, tce: u64, ioba: u64, write: bool) -> DeviceOutcome
-    ensures { result ≡ devices.outcome_by grants.now.grants ioba write tce }
+pub fn outcome_by<G: GrantedMemory>(grants: &G, tce: u64, ioba: u64, write: bool) -> DeviceOutcome
+    ensures { result ≡ devices.outcome_by (G.grants grants.now) ioba write tce }
 {
     if !permits(tce, write) {
         return DeviceOutcome::Denied;

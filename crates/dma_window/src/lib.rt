@@ -13,7 +13,7 @@ mod tce;
 mod tce_calls;
 mod tce_plan;
 
-pub use accesses::{device, device_into};
+pub use accesses::{device, device_into, outcome_by};
 pub use laws::{
     busy_exactly_where_taken, kept_words_are_read_back, never_busy_alone, permitted_accesses_land,
     tces_have_pages, ungranted_exactly_where,

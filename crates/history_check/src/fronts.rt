@@ -94,9 +94,9 @@ fn keep_front(kept: &mut HashMap<u32, u64>, entry: u32, front: u64) -> Result<()
 fn front_of(fronts: &Fronts, opening: &[u64], entry: u32) -> u64
     ensures { result ≡ front_of fronts.now opening.now entry }
 {
-    let place = entry as usize;
-    if place < fronts.list.len() {
-        return fronts.list[place];
+    let index = entry as usize;
+    if index < fronts.list.len() {
+        return fronts.list[index];
     }
     kept_front(&fronts.kept, opening, entry)
 }
@@ -104,9 +104,9 @@ fn front_of(fronts: &Fronts, opening: &[u64], entry: u32) -> u64
 fn set_front(fronts: &mut Fronts, entry: u32, front: u64) -> Result<(), AllocError>
     ensures { OnOk result (SetsFront fronts.old fronts.new entry front) }
 {
-    let place = entry as usize;
-    if place < fronts.list.len() {
-        fronts.list[place] = front;
+    let index = entry as usize;
+    if index < fronts.list.len() {
+        fronts.list[index] = front;
         return Ok(());
     }
     keep_front(&mut fronts.kept, entry, front)?;

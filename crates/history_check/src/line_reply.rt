@@ -108,8 +108,8 @@ fn uncached_end(
     }
 }
 
-/// The reply to an access by the line of its page takes the place, if that line is cached and the
-/// access can have found these states by it. Answers whether there is such a reply.
+/// Puts the reply to an access by the line of its page into the slot, if that line is cached and
+/// the access can have found these states by it. Answers whether there is such a reply.
 fn put_hit(
     context: &Context,
     processor: &Cpu,
@@ -146,8 +146,8 @@ fn put_hit(
     }
 }
 
-/// The reply to a line that isn't quiet, by operations that found these states and past the cache,
-/// takes the place.
+/// Puts the reply to a line that isn't quiet, by operations that found these states and past the
+/// cache, into the slot.
 fn put_other(
     context: &Context,
     processor: &Cpu,
@@ -197,7 +197,7 @@ fn put_other(
     }
 }
 
-/// The reply to a line that isn't quiet, by operations that found these states, takes the place.
+/// Puts the reply to a line that isn't quiet, by operations that found these states, into the slot.
 /// Gives how many bytes its text has, if the given text begins with it, and `None` where that
 /// begins with the text of no such reply. `out` is room to write in.
 pub fn line_reply(

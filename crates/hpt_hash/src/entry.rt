@@ -7,7 +7,7 @@ ghost use Rattle.hpt_hash.specs.Entries.{IsPageOf, SuitsPage, confirmed_page, lo
 use crate::hash::groups;
 use hpte_fields::{VALID, one_tb, secondary, tag_of};
 use page_sizes::decode;
-use power_addr::Page;
+use power_addr::{Page, offset_bits_of};
 
 /// The 55 bits of an abbreviated virtual page number, which stands above the low seven bits of
 /// doubleword 0.
@@ -17,13 +17,7 @@ const VIRTUAL_PAGE_NUMBER: u64 = (1 << 55) - 1;
 const LOW_HASH: u64 = 0x7FF;
 
 /// A virtual page number holds the address bits from weight `2^LOWEST_BIT` up.
-const LOWEST_BIT: u32 = 23;
-
-/// The bits of a segment offset in a segment of 256 MB.
-const SMALL_OFFSET_BITS: u32 = 28;
-
-/// The bits of a segment offset in a segment of 1 TB.
-const LARGE_OFFSET_BITS: u32 = 40;
+pub const LOWEST_BIT: u32 = 23;
 
 /// The page that an entry with these doublewords translates at this index of a table of `2^order`
 /// bytes. `None` where the entry is one of no page: V is clear, the doublewords encode no page
@@ -61,7 +55,7 @@ fn hash_bits(group: u64, secondary: bool) -> u64
 }
 
 /// The virtual address bits from weight 2^23 up, as a number.
-fn virtual_page_number(dword0: u64) -> u64
+pub fn virtual_page_number(dword0: u64) -> u64
     ensures value { result ≡ number_field dword0 }
     ensures in_range { result < 2 ^ 55 }
 {
@@ -72,11 +66,7 @@ fn virtual_page_number(dword0: u64) -> u64
 fn held_offset_bits(one_tb: bool) -> u32
     ensures { result ≡ offset_bits one_tb - 23 }
 {
-    if one_tb {
-        LARGE_OFFSET_BITS - LOWEST_BIT
-    } else {
-        SMALL_OFFSET_BITS - LOWEST_BIT
-    }
+    offset_bits_of(one_tb) - LOWEST_BIT
 }
 
 /// The only page that can have this segment size, this virtual page number, this base page size

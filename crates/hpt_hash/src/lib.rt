@@ -10,6 +10,6 @@ mod entry;
 mod hash;
 mod laws;
 
-pub use entry::page_of;
+pub use entry::{LOWEST_BIT, page_of, virtual_page_number};
 pub use hash::groups;
 pub use laws::one_page_of_an_entry;

@@ -13,4 +13,5 @@ mod prepared;
 pub use carry::{Collision, rehash, rehash_into};
 pub use current::{CommitAnswer, Current};
 pub use holder::StateHolder;
+pub use pending::READY_A_CALL;
 pub use prepared::Resize;

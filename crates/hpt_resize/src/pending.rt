@@ -7,7 +7,7 @@ use entry_model::EntryState;
 use std::marker::Model;
 
 /// How many entries one call makes ready.
-const READY_A_CALL: usize = 16_384;
+pub const READY_A_CALL: usize = 16_384;
 
 /// A table that is made ready for the guest.
 #[derive(Drop)]

@@ -15,3 +15,6 @@ pub const REFERENCED: u64 = 0x100;
 
 /// C, in doubleword 1: the page was changed.
 pub const CHANGED: u64 = 0x80;
+
+/// The bit of doubleword 1 that no field uses, and which H_ENTER clears.
+pub const RESERVED: u64 = 0x4000_0000_0000_0000;

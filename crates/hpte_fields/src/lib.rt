@@ -10,7 +10,7 @@ mod second;
 mod stored;
 mod table_size;
 
-pub use bits::{BOLTED, CHANGED, REFERENCED, SECONDARY, TAG, VALID};
+pub use bits::{BOLTED, CHANGED, REFERENCED, RESERVED, SECONDARY, TAG, VALID};
 pub use first::{bolted, one_tb, secondary, tag_of};
 pub use laws::constants_are_as_defined;
 pub use pool_range::{GREATEST_ORDER, LEAST_ORDER};

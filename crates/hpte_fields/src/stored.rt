@@ -1,14 +1,11 @@
 ghost use Rattle.std.specs.Prelude.{◌≡◌, Some, IfSome};
 ghost use Rattle.hpte_fields.specs.Fields.{normal_words};
 
-use crate::bits::VALID;
+use crate::bits::{RESERVED, VALID};
 use page_sizes::decode;
 
 /// The bits of doubleword 0 that belong to the hypervisor.
 const HYPERVISOR: u64 = 0x60;
-
-/// The bit of doubleword 1 that no field uses.
-const RESERVED: u64 = 0x4000_0000_0000_0000;
 
 /// The doublewords that H_ENTER stores of those that it is given: V set, the hypervisor's bits and
 /// the reserved bit clear. `None` where B is above 1 or the page size is none of the table.

@@ -22,7 +22,7 @@ use trace_reply::{ReplyEnd, ReplySlot};
 use vcpu::Cpu;
 
 /// Runs a line that isn't quiet on a table that nobody else is at, by this processor. Its reply
-/// takes the place, and it and the states after it are the serial run's.
+/// is put into the slot, and it and the states after it are the serial run's.
 pub fn run_act(
     table: &mut PlainTable,
     cpu: &mut Cpu,

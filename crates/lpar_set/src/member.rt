@@ -90,7 +90,7 @@ impl Member {
         })
     }
 
-    /// Runs a line. Its reply takes the place. Where memory ends, which it can at quiet lines
+    /// Runs a line. Its reply is put into the slot. Where memory ends, which it can at quiet lines
     /// alone, the partition and the pool stay.
     #[tactic(auto, unfolding(run_model::specs::SerialRun::run_on))]
     pub fn line(

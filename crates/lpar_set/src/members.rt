@@ -66,7 +66,7 @@ impl Members {
     }
 
     /// Runs a line of the partition that is so far in the order of `begin` lines, counted from 0.
-    /// Its reply takes the place. Where memory ends, which it can at quiet lines alone, all
+    /// Its reply is put into the slot. Where memory ends, which it can at quiet lines alone, all
     /// partitions and the pool stay.
     pub fn line(
         &mut self,

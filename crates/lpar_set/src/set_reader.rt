@@ -15,7 +15,7 @@ ghost use Rattle.trace_line.specs.Lines.{most_lines};
 
 use crate::set::SetTrace;
 use crate::set_end::{may_end, partitions_read};
-use crate::set_words::{is, is_of_the_whole, partition_named};
+use crate::set_words::{is_of_the_whole, partition_named};
 use crate::strangers::meets_stranger;
 use crate::turn::Turn;
 use arrayvec::ArrayVec;
@@ -26,7 +26,7 @@ use std::alloc::{AllocError, Global};
 use std::marker::Model;
 use trace_read::{
     Given, LineRefused, MOST_LINES, POOL_BASE, POOL_ORDER, Stop, TraceError, TraceReader, Why,
-    drop_cr, is_remark_line, is_setting, is_text, pool_named, read_words,
+    drop_cr, is_name, is_remark_line, is_setting, is_text, pool_named, read_words,
 };
 
 /// What the lines of a set have given so far. After a line that is refused, or for which there is
@@ -319,7 +319,7 @@ impl<'a> SetReader<'a> {
         if is_of_the_whole(rest) {
             return Err(Stop::Refused(Why::Lpar));
         }
-        if is(first, "shared") {
+        if is_name(first, "shared") {
             self.take_shared(alloc, words)
         } else {
             self.take_numbered(alloc, first, rest)

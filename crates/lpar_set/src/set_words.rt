@@ -1,16 +1,8 @@
 ghost use Rattle.std.specs.Prelude.{◌≡◌, ◌<◌, IfOk};
-ghost use Rattle.std.specs.Str.{bytes_eq};
 ghost use Rattle.trace_read.specs.TextLines.{texts};
 ghost use Rattle.lpar_set.specs.SetGrammar as sets;
 
-use trace_read::{Why, number};
-
-/// Whether a word is this name.
-pub fn is(word: &[u8], name: &str) -> bool
-    ensures { result ≡ bytes_eq name.now word.now }
-{
-    name.as_bytes() == word
-}
+use trace_read::{Why, is_name, number};
 
 /// The number of the partition that a first word names, which is below 8.
 pub fn partition_named(word: &[u8]) -> Result<u8, Why>
@@ -29,6 +21,6 @@ pub fn is_of_the_whole(words: &[&[u8]]) -> bool
 {
     match words.first() {
         None => false,
-        Some(word) => is(word, "pool") || is(word, "window") || is(word, "entry"),
+        Some(word) => is_name(word, "pool") || is_name(word, "window") || is_name(word, "entry"),
     }
 }

@@ -12,8 +12,8 @@ use Rattle.hpt_hash.proofs.PageLemmas.{page_at-sound}
 use Rattle.papr_c.specs.declared.decoding.NoPage.{NoPage}
 use Rattle.papr_c.specs.declared.decoding.NoPage.TheVariants.{Empty, NoSize, NoSegment, OtherGroup, NoIndex}
 use Rattle.papr_c.specs.declared.decoding.PaprPage.{PaprPage}
-use Rattle.papr_c.specs.Decoding.{is_index, has_place, cause_of, cause_number, why_of, page_here, with_page, words_said, decoded}
-use Rattle.papr_c.proofs.PagePlaces.{place_of_page}
+use Rattle.papr_c.specs.Decoding.{is_index, fits_tag, cause_of, cause_number, why_of, page_here, with_page, words_said, decoded}
+use Rattle.papr_c.proofs.TagPages.{place_of_page}
 
 -- What is found: a page and no cause, or no page and this cause.
 abbrev pub IsHere : ℕ → ℕ → ℕ → ℕ → Option VirtualPage → Option NoPage → Type 0
@@ -56,13 +56,13 @@ size_is (Some s) size shift e has = let same :
     s ≡ size = cc in subst (λ (z : PageSize). z.base ≡ shift) same has
 
 -- A page that is found has a place.
-pub found_has_place :
+pub found_fits_tag :
     (order ptex dword0 dword1 : ℕ) (size : PageSize) (p : VirtualPage)
     → dword0 < 2 ^ 64
     → size_of dword0 dword1 ≡ Some size
     → page_at order ptex dword0 dword1 ≡ Some p
-    → has_place dword0 size.base ≡ true
-found_has_place order ptex dword0 dword1 size p range sized found =
+    → fits_tag dword0 size.base ≡ true
+found_fits_tag order ptex dword0 dword1 size p range sized found =
     let sound = page_at-sound order ptex dword0 dword1 p range found in
     place_of_page p dword0 size.base sound.0 range
     (sym (size_is (size_of dword0 dword1) size p.shift sized sound.1.size)) sound.1.tag
@@ -71,13 +71,13 @@ none_without_place :
     (order ptex dword0 dword1 : ℕ) (size : PageSize) (o : Option VirtualPage)
     → dword0 < 2 ^ 64
     → size_of dword0 dword1 ≡ Some size
-    → has_place dword0 size.base ≡ false
+    → fits_tag dword0 size.base ≡ false
     → page_at order ptex dword0 dword1 ≡ o
     → o ≡ None
 none_without_place order ptex dword0 dword1 size None range sized none is = refl
 none_without_place order ptex dword0 dword1 size (Some p) range sized none is =
     absurd
-    (true≢false (sym (found_has_place order ptex dword0 dword1 size p range sized is) ∙ none))
+    (true≢false (sym (found_fits_tag order ptex dword0 dword1 size p range sized is) ∙ none))
 
 pub no_segment :
     (order ptex dword0 dword1 : ℕ) (size : PageSize)
@@ -85,7 +85,7 @@ pub no_segment :
     → is_index order ptex ≡ true
     → is_valid dword0 ≡ true
     → size_of dword0 dword1 ≡ Some size
-    → has_place dword0 size.base ≡ false
+    → fits_tag dword0 size.base ≡ false
     → IsHere order ptex dword0 dword1 None (Some NoSegment)
 unfolding cause_of
 no_segment order ptex dword0 dword1 size range inside valid sized away =
@@ -98,7 +98,7 @@ pub other_group :
     → is_index order ptex ≡ true
     → is_valid dword0 ≡ true
     → size_of dword0 dword1 ≡ Some size
-    → has_place dword0 size.base ≡ true
+    → fits_tag dword0 size.base ≡ true
     → page_at order ptex dword0 dword1 ≡ None
     → IsHere order ptex dword0 dword1 None (Some OtherGroup)
 unfolding cause_of
@@ -110,7 +110,7 @@ pub page_found :
     → is_index order ptex ≡ true
     → is_valid dword0 ≡ true
     → size_of dword0 dword1 ≡ Some size
-    → has_place dword0 size.base ≡ true
+    → fits_tag dword0 size.base ≡ true
     → page_at order ptex dword0 dword1 ≡ Some p
     → IsHere order ptex dword0 dword1 (Some p) None
 unfolding cause_of
@@ -130,7 +130,7 @@ here order ptex dword0 dword1 range = at (cases_Bool (is_index order ptex)) wher
       → is_index order ptex ≡ true
       → is_valid dword0 ≡ true
       → size_of dword0 dword1 ≡ Some size
-      → has_place dword0 size.base ≡ true
+      → fits_tag dword0 size.base ≡ true
       → page_at order ptex dword0 dword1 ≡ o
       → ((p : VirtualPage) × IsHere order ptex dword0 dword1 (Some p) None)
       ⊎ ((cause : NoPage) × IsHere order ptex dword0 dword1 None (Some cause))
@@ -144,7 +144,7 @@ here order ptex dword0 dword1 range = at (cases_Bool (is_index order ptex)) wher
       → is_index order ptex ≡ true
       → is_valid dword0 ≡ true
       → size_of dword0 dword1 ≡ Some size
-      → (has_place dword0 size.base ≡ true) ⊎ (has_place dword0 size.base ≡ false)
+      → (fits_tag dword0 size.base ≡ true) ⊎ (fits_tag dword0 size.base ≡ false)
       → ((p : VirtualPage) × IsHere order ptex dword0 dword1 (Some p) None)
       ⊎ ((cause : NoPage) × IsHere order ptex dword0 dword1 None (Some cause))
   placed size inside valid sized (inl place) =
@@ -161,7 +161,7 @@ here order ptex dword0 dword1 range = at (cases_Bool (is_index order ptex)) wher
       ⊎ ((cause : NoPage) × IsHere order ptex dword0 dword1 None (Some cause))
   of_size None inside valid none = inr (NoSize, no_size order ptex dword0 dword1 inside valid none)
   of_size (Some size) inside valid sized =
-      placed size inside valid sized (cases_Bool (has_place dword0 size.base))
+      placed size inside valid sized (cases_Bool (fits_tag dword0 size.base))
 
   of_entry :
       is_index order ptex ≡ true

@@ -8,7 +8,7 @@ pub mod SlotSearch
 pub mod PoolPrepares
 pub mod PoolCommits
 pub mod Tces
-pub mod PagePlaces
+pub mod TagPages
 pub mod DecodedPages
 pub mod ReservedBits
 pub mod StaleTrials

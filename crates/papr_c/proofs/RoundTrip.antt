@@ -12,7 +12,7 @@ use Rattle.hpte_fields.specs.Fields.{is_valid}
 use Rattle.entry_model.specs.State.{State}
 use Rattle.entry_model.specs.Reply.{words_of}
 use Rattle.hpt_resize.proofs.StateBack.{state_back}
-use Rattle.table_image.specs.Layouts.{words_of_bytes, laid_out, read_words, new_words, cleared_bit, unheld, segment_place}
+use Rattle.table_image.specs.Layouts.{words_of_bytes, laid_out, read_words, new_words, cleared_bit, unheld, segment_bits}
 use Rattle.table_image.specs.declared.layout.Layout.{Layout}
 use Rattle.table_image.specs.declared.layout.Layout.TheVariants.{Old, New}
 use Rattle.table_image.proofs.BitFields.{place_fits, segment_back, first_back, stays_cleared, none_left, second_back}
@@ -41,10 +41,10 @@ new_back :
     → laid_out New (h, l) ≡ Some w
     → AreBack New (h, l) w
 new_back h l w small fits clear laid =
-    at (cases_Bool (bit_and h unheld == 0)) (cases_Bool (bit_and l segment_place == 0)) where
+    at (cases_Bool (bit_and h unheld == 0)) (cases_Bool (bit_and l segment_bits == 0)) where
       at :
           ((bit_and h unheld == 0) ≡ true) ⊎ ((bit_and h unheld == 0) ≡ false)
-          → ((bit_and l segment_place == 0) ≡ true) ⊎ ((bit_and l segment_place == 0) ≡ false)
+          → ((bit_and l segment_bits == 0) ≡ true) ⊎ ((bit_and l segment_bits == 0) ≡ false)
           → AreBack New (h, l) w
       at (inr set_h) free = let none : laid_out New (h, l) ≡ None = rw set_h refl in absurd (cc)
       at (inl held) (inr set_l) = let none :
@@ -53,7 +53,7 @@ new_back h l w small fits clear laid =
           let told : laid_out New (h, l) ≡ Some (new_words (h, l)) = rw (held, free) refl in
           let is : new_words (h, l) ≡ w = cc in
           let clear_h : bit_and h unheld ≡ 0 = grind (arith, held) in
-          let clear_l : bit_and l segment_place ≡ 0 = grind (arith, free) in
+          let clear_l : bit_and l segment_bits ≡ 0 = grind (arith, free) in
           let s : h / 2 ^ 62 < 4 = omega arith in
           subst (AreBack New (h, l)) is
           (record {

@@ -20,8 +20,8 @@ is_index order ptex = is_table_order order && nat_lt ptex (entry_count order)
 -- A page of this base size lies where the tag says: B is the code of a segment's size, such a
 -- segment has pages of that size, and the address bits of the tag that lie inside the page are
 -- clear.
-abbrev pub has_place : ℕ → ℕ → Bool
-has_place dword0 base =
+abbrev pub fits_tag : ℕ → ℕ → Bool
+fits_tag dword0 base =
     nat_le (segment_code dword0) 1
     && is_base_shift (is_one_tb dword0) base
     && (number_field dword0 % 2 ^ (base - 23) == 0)
@@ -32,7 +32,7 @@ is_cause order ptex dword0 dword1 NoIndex = not (is_index order ptex)
 is_cause order ptex dword0 dword1 Empty = not (is_valid dword0)
 is_cause order ptex dword0 dword1 NoSize = is_none (size_of dword0 dword1)
 is_cause order ptex dword0 dword1 NoSegment =
-    option_map_or (λ (size : PageSize). not (has_place dword0 size.base)) (size_of dword0 dword1)
+    option_map_or (λ (size : PageSize). not (fits_tag dword0 size.base)) (size_of dword0 dword1)
     false
 is_cause order ptex dword0 dword1 OtherGroup = is_none (page_at order ptex dword0 dword1)
 
@@ -134,11 +134,11 @@ protection_rights protection key = rights_of_permission (permission protection k
 
 -- ---- what is proved of it
 -- A page of this base size lies where a tag says exactly where one has this tag.
-abbrev pub PlacesAreThoseOfPages : Type 0
-PlacesAreThoseOfPages =
+abbrev pub TagsFitPages : Type 0
+TagsFitPages =
     (dword0 base : ℕ)
     → dword0 < 2 ^ 64
-    → (has_place dword0 base ≡ true)
+    → (fits_tag dword0 base ≡ true)
     ↔ ((p : VirtualPage) × IsPage p × (p.shift ≡ base) × (tag_of p ≡ tag_field dword0))
 
 -- No cause holds exactly where the doublewords translate a page at an index in range.

@@ -1,24 +1,14 @@
 ghost use Rattle.std.specs.Prelude.{◌≡◌, Some, None, IfOk, IfErr};
 ghost use Rattle.hpte_fields.specs.Fields as fields;
-ghost use Rattle.power_addr.specs.Pages as pages;
 ghost use Rattle.papr_c.specs.Decoding as spec;
 
-use hpt_hash::page_of;
+use hpt_hash::{LOWEST_BIT, page_of, virtual_page_number};
 use hpte_fields::{
     CHANGED, REFERENCED, VALID, bolted, entry_count, frame, is_table_order, key, no_execute,
     one_tb, pp, secondary, wimg,
 };
 use page_sizes::decode;
-use power_addr::Page;
-
-/// The address bits from weight 2^23 up stand in doubleword 0 from this bit on.
-const NUMBER_SHIFT: u32 = 7;
-
-/// There are 55 of them.
-const NUMBER: u64 = (1 << 55) - 1;
-
-/// The weight of the lowest of them, as a binary logarithm.
-const LOWEST_BIT: u8 = 23;
+use power_addr::{Page, shift_in_range};
 
 /// What the two doublewords of an entry say, at its index in a table. What isn't said is 0.
 #[repr(C)]
@@ -99,26 +89,14 @@ fn is_index(order: u8, ptex: u64) -> bool
     is_table_order(order) && ptex < u64::from(entry_count(order))
 }
 
-/// Whether pages of this base size lie in segments of this size.
-fn is_base_shift(one_tb: bool, base: u8) -> bool
-    ensures { result ≡ pages.is_base_shift one_tb base }
-{
-    match base {
-        12 | 16 | 24 => true,
-        34 => one_tb,
-        _ => false,
-    }
-}
-
 /// Whether a page of this base size lies where the tag says.
-fn has_place(dword0: u64, base: u8) -> bool
-    ensures { result ≡ spec.has_place dword0 base }
+fn fits_tag(dword0: u64, base: u8) -> bool
+    ensures { result ≡ spec.fits_tag dword0 base }
 {
-    if dword0 >> 62 > 1 || !is_base_shift(one_tb(dword0), base) {
+    if dword0 >> 62 > 1 || !shift_in_range(one_tb(dword0), base) {
         return false;
     }
-    let number = dword0 >> NUMBER_SHIFT & NUMBER;
-    number % (1 << base.saturating_sub(LOWEST_BIT)) == 0
+    virtual_page_number(dword0) % (1 << u32::from(base).saturating_sub(LOWEST_BIT)) == 0
 }
 
 /// The page that the doublewords translate at this index, or the first reason why they translate
@@ -142,7 +120,7 @@ fn found_here(order: u8, ptex: u64, dword0: u64, dword1: u64) -> Result<Page, No
     let Some(size) = decode(dword0, dword1) else {
         return Err(NoPage::NoSize);
     };
-    if !has_place(dword0, size.base) {
+    if !fits_tag(dword0, size.base) {
         return Err(NoPage::NoSegment);
     }
     match page_of(order, ptex as u32, dword0, dword1) {

@@ -11,29 +11,14 @@ use byteorder::{BigEndian, ByteOrder};
 use c_layout::{PaprEntry, is_table};
 use entry_model::EntryState;
 use hpt_resize::StateHolder;
-use table_image::Layout;
-
-/// The bits of doubleword 0 below B that the newer layout has no place for.
-const UNHELD: u64 = 0x3FF0_0000_0000_0000;
-
-/// The place of B in doubleword 1 of the newer layout.
-const SEGMENT_PLACE: u64 = 0x0C00_0000_0000_0000;
+use table_image::{Layout, in_layout};
 
 /// The doublewords of an entry in this layout: none where it can't hold them.
 fn words_in(layout: Layout, entry: &EntryState) -> Option<(u64, u64)>
     ensures { result ≡ laid_out layout (words_of entry.now) }
 {
     let (dword0, dword1) = entry.words();
-    match layout {
-        Layout::Old => Some((dword0, dword1)),
-        Layout::New => {
-            if dword0 & UNHELD != 0 || dword1 & SEGMENT_PLACE != 0 {
-                return None;
-            }
-            let segment = dword0 >> 62;
-            Some((dword0 & (u64::MAX >> 12), dword1 | segment << 58))
-        }
-    }
+    in_layout(layout, dword0, dword1)
 }
 
 /// The first of so many entries that the layout can't hold.

@@ -1,6 +1,5 @@
 ghost use Rattle.std.specs.Prelude.{◌≡◌, ◌+◌, ◌*◌, ◌≤◌, ◌<◌, None, IfSome, length};
 ghost use Rattle.entry_model.specs.Reply.{entered_state};
-ghost use Rattle.table_image.specs.Layouts.{read_words};
 ghost use Rattle.c_layout.specs.Grants.{listed};
 ghost use Rattle.papr_c.specs.Transfers.{replaced, entries_of_bytes, outcome_of_import};
 ghost use Rattle.c_layout.specs.Entries.{states_of, AreMarked};
@@ -12,35 +11,7 @@ use entry_model::{EntryState, Op, reply};
 use hpt_resize::StateHolder;
 use hpte_fields::VALID;
 use page_grants::entered_words;
-use table_image::Layout;
-
-/// The bits of doubleword 0 that the newer layout leaves out.
-const LEFT_OUT: u64 = 0xFFF0_0000_0000_0000;
-
-/// The bit of doubleword 1 that H_ENTER clears.
-const CLEARED: u64 = 0x4000_0000_0000_0000;
-
-/// All of doubleword 1 but the place of B in the newer layout.
-const BESIDE_SEGMENT: u64 = 0xF3FF_FFFF_FFFF_FFFF;
-
-/// The older layout's doublewords of those of this layout.
-fn words_from(layout: Layout, dword0: u64, dword1: u64) -> Option<(u64, u64)>
-    ensures { result ≡ read_words layout (dword0, dword1) }
-{
-    if dword1 & CLEARED != 0 {
-        return None;
-    }
-    match layout {
-        Layout::Old => Some((dword0, dword1)),
-        Layout::New => {
-            if dword0 & LEFT_OUT != 0 {
-                return None;
-            }
-            let segment = dword1 >> 58 & 3;
-            Some((dword0 | segment << 62, dword1 & BESIDE_SEGMENT))
-        }
-    }
-}
+use table_image::{Layout, from_layout};
 
 /// What H_ENTER makes of an empty entry by these doublewords, at stamp 0.
 fn entered(dword0: u64, dword1: u64) -> EntryState
@@ -67,7 +38,7 @@ fn entry_of_words(
     if dword0 & VALID == 0 {
         return Ok(EntryState::empty(0));
     }
-    let (pteh, ptel) = words_from(layout, dword0, dword1).ok_or(Refusal::Unheld)?;
+    let (pteh, ptel) = from_layout(layout, dword0, dword1).ok_or(Refusal::Unheld)?;
     let (dword0, dword1) = entered_words(grants, pteh, ptel).ok_or(Refusal::Unentered)?;
     Ok(entered(dword0, dword1))
 }

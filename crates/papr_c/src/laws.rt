@@ -1,6 +1,6 @@
 //! Laws of the library. Each function does nothing, and its contract is the law.
 
-ghost use Rattle.papr_c.specs.Decoding.{PlacesAreThoseOfPages, NoCauseExactlyAtPages, BaseSizesAreThePages};
+ghost use Rattle.papr_c.specs.Decoding.{TagsFitPages, NoCauseExactlyAtPages, BaseSizesAreThePages};
 ghost use Rattle.papr_c.specs.ResizeLaw.{IsPrepareOfPool, IsCommitOfPool};
 ghost use Rattle.papr_c.specs.RightsLaws.{RightsAreWhatStays, NoCauseExactlyWhereAllowed};
 ghost use Rattle.papr_c.specs.StaleLaw.{UnstaleKeepsTranslations};
@@ -30,8 +30,8 @@ pub fn unstale_keeps_translations()
 {}
 
 /// A page of a base size lies where a tag says exactly where a page of that size has the tag.
-pub fn places_are_those_of_pages()
-    ensures { PlacesAreThoseOfPages }
+pub fn tags_fit_pages()
+    ensures { TagsFitPages }
 {}
 
 /// No reason is told exactly where doublewords translate a page at an index in range.

@@ -6,11 +6,9 @@ ghost use Rattle.c_layout.specs.Entries.{states_of, AreMarked};
 
 use crate::rehashing::{PaprRehash, carry, clear};
 use c_layout::{PaprEntry, is_table};
+use hpt_resize::READY_A_CALL;
 use hpte_fields::{GREATEST_ORDER, entry_count, is_architected_order, is_table_order};
 use papr_codes::Rc;
-
-/// How many entries one call makes ready.
-const READY_A_CALL: usize = 16_384;
 
 /// What is pending between two resize calls. All zero is nothing; the calls write it.
 #[repr(C)]

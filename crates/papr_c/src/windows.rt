@@ -1,9 +1,7 @@
 ghost use Rattle.std.specs.Prelude.{◌≡◌, ◌<◌, ◌||◌, [], length, true, false, IfSome};
 ghost use Rattle.bus_window.specs.Windows as bus;
 ghost use Rattle.dma_window.specs.Calls.{put_tce_plan, put_plan_at, get_tce_plan, clear_plan, replace_plan};
-ghost use Rattle.dma_window.specs.Devices.{outcome_by};
 ghost use Rattle.dma_window.specs.Entries as words;
-ghost use Rattle.dma_window.specs.Pages as pages;
 ghost use Rattle.entry_model.specs.Receipt;
 ghost use Rattle.papr_c.specs.Calls.{memory, outcome_where};
 ghost use Rattle.c_layout.specs.Grants.{listed};
@@ -15,12 +13,9 @@ use bus_window::Window;
 use c_layout::{
     PaprEntry, PaprGrants, PaprReceipt, PaprReply, either_stale, filled_count, is_stale, put_word,
 };
-use dma_window::{address, entering, permits, tce_of};
+use dma_window::{address, code_of, entering, is_ram, outcome_by, permits, tce_of};
 use entry_model::{Answer, DeviceOutcome, NO_TEST, Op};
-use frame_grants::Kind;
-use page_grants::GrantedMemory;
 use papr_codes::Rc;
-use pool_range::PAGE_BYTES;
 
 /// What empties an entry: any valid one passes its test.
 const REMOVAL: Op = Op::Remove { test: NO_TEST };
@@ -88,30 +83,6 @@ fn permits_any(tce: u64) -> bool
     ensures { result ≡ (words.permits tce false || words.permits tce true) }
 {
     permits(tce, false) || permits(tce, true)
-}
-
-/// Whether one grant of ram holds the page at this logical address.
-#[tactic(auto, unfolding(dma_window::specs::Pages::is_ram))]
-fn is_ram(grants: &PaprGrants, page: u64) -> bool
-    ensures { result ≡ pages.is_ram
-        (listed grants.now.grants grants.now.count)
-        page }
-{
-    match grants.machine_of(page, PAGE_BYTES) {
-        Some((_, Kind::Ram)) => true,
-        _ => false,
-    }
-}
-
-/// The return code of a call that ended with this answer.
-fn code_of(answer: Answer) -> Rc
-    ensures { result ≡ Rattle.dma_window.specs.Calls.code_of answer }
-{
-    match answer {
-        Answer::Worn => Rc::Hardware,
-        Answer::Taken => Rc::Busy,
-        _ => Rc::Success,
-    }
 }
 
 /// Whether the entry's stamp is at its last value.
@@ -240,24 +211,6 @@ pub extern "C" fn papr_get_tce(
     PaprReply::answered(Rc::Success, shown, filled, false)
 }
 
-/// Where a device's access ends by the page's TCE.
-fn device_by(grants: &PaprGrants, tce: u64, ioba: u64, write: bool) -> DeviceOutcome
-    ensures { result ≡ outcome_by (listed grants.now.grants grants.now.count) ioba write tce }
-{
-    if !permits(tce, write) {
-        return DeviceOutcome::Denied;
-    }
-    let page = address(tce);
-    let logical = page + ioba % PAGE_BYTES;
-    if !is_ram(grants, page) {
-        return DeviceOutcome::Ungranted(logical);
-    }
-    match grants.machine_of(logical, 1) {
-        None => DeviceOutcome::Ungranted(logical),
-        Some((machine, _)) => DeviceOutcome::At(machine),
-    }
-}
-
 /// A device's access at a bus address, a read or a write, by the entries of its window.
 #[unsafe(no_mangle)]
 pub extern "C" fn papr_device(
@@ -286,5 +239,8 @@ pub extern "C" fn papr_device(
     };
     let filled = filled_count(receipts.len(), 1);
     let read = make(entries, &Op::Read, entry, receipts, 0);
-    PaprDevice::of(device_by(grants, tce_of(&read.before), ioba, write), filled)
+    PaprDevice::of(
+        outcome_by(grants, tce_of(&read.before), ioba, write),
+        filled,
+    )
 }

@@ -8,4 +8,4 @@
 
 mod page;
 
-pub use page::Page;
+pub use page::{Page, offset_bits_of, shift_in_range};

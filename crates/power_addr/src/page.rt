@@ -154,7 +154,8 @@ impl Default for Page {
     }
 }
 
-fn offset_bits_of(one_tb: bool) -> u32
+/// How many bits the offset in a segment has: 40 in one of 1 TB, else 28.
+pub fn offset_bits_of(one_tb: bool) -> u32
     ensures { result ≡ offset_bits one_tb }
 {
     if one_tb {
@@ -176,7 +177,9 @@ fn vsid_in_range(one_tb: bool, vsid: u64) -> bool
     vsid >> (ADDRESS_BITS - offset_bits_of(one_tb)) == 0
 }
 
-fn shift_in_range(one_tb: bool, shift: u8) -> bool
+/// Whether segments of this size have base pages of `2^shift` bytes: of 4 KB, 64 KB, 16 MB, and in
+/// one of 1 TB also of 16 GB.
+pub fn shift_in_range(one_tb: bool, shift: u8) -> bool
     ensures { result ≡ is_base_shift one_tb shift }
 {
     matches!(shift, 12 | 16 | 24) || one_tb && shift == 34

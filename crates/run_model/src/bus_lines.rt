@@ -12,8 +12,8 @@ use papr_table::PlainTable;
 use trace_line::Act;
 use trace_reply::{ReplyEnd, ReplySlot};
 
-/// Runs a line that names a DMA window on the window's entries. Its reply takes the place. Such a
-/// line uses nothing of a processor.
+/// Runs a line that names a DMA window on the window's entries. Its reply is put into the slot.
+/// Such a line uses nothing of a processor.
 #[tactic(auto, unfolding(trace_line::specs::Lines::bus_of))]
 pub fn run_on_bus(table: &mut PlainTable, around: &Surroundings, act: &Act, slot: &mut ReplySlot)
     requires on_bus { is_some (bus_of act.now) ≡ true }

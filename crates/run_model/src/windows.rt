@@ -56,7 +56,7 @@ impl WindowEntries {
         Ok(WindowEntries { window, states })
     }
 
-    /// Runs a line on the window, which it names. Its reply takes the place.
+    /// Runs a line on the window, which it names. Its reply is put into the slot.
     pub fn line(&mut self, grants: &Grants, act: &Act, slot: &mut ReplySlot)
         requires named { is_on_window self.old.window act.now ≡ true }
         ensures reply { (reply_in slot.new, self.new.states)

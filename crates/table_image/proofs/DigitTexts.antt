@@ -12,10 +12,10 @@ use Rattle.byteorder.specs.Numbers.{big_number-reads_back}
 use Rattle.hex.specs.Hex.{IsBytes, lower_digits}
 use Rattle.hex.proofs.HexLemmas.{IsAscii-encode_with, decode_sized-encode_lower}
 use Rattle.table_image.specs.Image.{IsReadBack}
-use Rattle.table_image.specs.Layouts.{entry_digits, entry_words, digits_of_words, words_of_digits, words_of_bytes, laid_out, read_words, fits_new, new_words, cleared_bit, unheld, segment_place}
+use Rattle.table_image.specs.Layouts.{entry_digits, entry_words, digits_of_words, words_of_digits, words_of_bytes, laid_out, read_words, fits_new, new_words, cleared_bit, unheld, segment_bits}
 use Rattle.table_image.specs.declared.layout.Layout.{Layout}
 use Rattle.table_image.specs.declared.layout.Layout.TheVariants.{Old, New}
-use Rattle.table_image.proofs.BitFields.{place_fits, segment_back, first_back, stays_cleared, none_left, second_back}
+use Rattle.table_image.proofs.BitFields.{bits_fit, segment_back, first_back, stays_cleared, none_left, second_back}
 
 -- ---- digits are ASCII
 all_ascii : List ℕ → Bool
@@ -87,7 +87,7 @@ new_back :
     → l < 2 ^ 64
     → bit_and l cleared_bit ≡ 0
     → bit_and h unheld ≡ 0
-    → bit_and l segment_place ≡ 0
+    → bit_and l segment_bits ≡ 0
     → read_words New (new_words (h, l)) ≡ Some (h, l)
 new_back h l small fits clear held free =
     let s : h / 2 ^ 62 < 4 = omega arith in
@@ -125,11 +125,11 @@ read_back Old h l digits small fits clear e =
 read_back New h l digits small fits clear e = at (cases_Bool (fits_new (h, l))) where
   at : (fits_new (h, l) ≡ true) ⊎ (fits_new (h, l) ≡ false) → entry_words New digits ≡ Some (h, l)
   at (inl held) =
-      let parts = and_parts (bit_and h unheld == 0) (bit_and l segment_place == 0) held in
+      let parts = and_parts (bit_and h unheld == 0) (bit_and l segment_bits == 0) held in
       let first : bit_and h unheld ≡ 0 = eqb-true (bit_and h unheld) 0 parts.0 in
-      let second : bit_and l segment_place ≡ 0 = eqb-true (bit_and l segment_place) 0 parts.1 in
+      let second : bit_and l segment_bits ≡ 0 = eqb-true (bit_and l segment_bits) 0 parts.1 in
       let there : Some (digits_of_words (new_words (h, l))) ≡ Some digits = rw held at e in
-      let sum : l + h / 2 ^ 62 * 2 ^ 58 < 2 ^ 64 = place_fits l (h / 2 ^ 62) fits (omega arith)
+      let sum : l + h / 2 ^ 62 * 2 ^ 58 < 2 ^ 64 = bits_fit l (h / 2 ^ 62) fits (omega arith)
       second in
       spelt_back New (h, l) (new_words (h, l)) digits (omega arith) sum there
       (new_back h l small fits clear first second)

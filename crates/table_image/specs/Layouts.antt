@@ -24,18 +24,18 @@ abbrev pub words_of_digits : List ℕ → Option (ℕ × ℕ)
 words_of_digits digits = option_map words_of_bytes (result_ok (decode_sized digits 16))
 
 -- ---- the newer layout
--- The ten bits of doubleword 0 below B, which the newer layout has no place for.
+-- The ten bits of doubleword 0 below B, which the newer layout doesn't hold.
 abbrev pub unheld : ℕ
 unheld = 0x3FF0000000000000
 
--- The place of B in doubleword 1 of the newer layout.
-abbrev pub segment_place : ℕ
-segment_place = 0x0C00000000000000
+-- The bits of doubleword 1 that hold B in the newer layout.
+abbrev pub segment_bits : ℕ
+segment_bits = 0x0C00000000000000
 
 -- The newer layout can hold the entry: the ten bits are clear, and so are those of doubleword 1
 -- where it puts B.
 abbrev pub fits_new : ℕ × ℕ → Bool
-fits_new w = (bit_and w.0 unheld == 0) && (bit_and w.1 segment_place == 0)
+fits_new w = (bit_and w.0 unheld == 0) && (bit_and w.1 segment_bits == 0)
 
 -- The newer layout's doublewords of an entry that it can hold: B stands in the second, and the
 -- first has 52 bits.

@@ -4,27 +4,25 @@ ghost use Rattle.table_image.specs.Layouts.{digits_of_words, words_of_digits, la
 use crate::layout::Layout;
 use byteorder::{BigEndian, ByteOrder};
 use hex::{FromHex, encode_to_slice};
+use hpte_fields::RESERVED;
 
-/// The bits of doubleword 0 below B that the newer layout has no place for.
+/// The bits of doubleword 0 below B that the newer layout doesn't hold.
 const UNHELD: u64 = 0x3FF0_0000_0000_0000;
 
-/// The place of B in doubleword 1 of the newer layout.
-const SEGMENT_PLACE: u64 = 0x0C00_0000_0000_0000;
+/// The bits of doubleword 1 that hold B in the newer layout.
+const SEGMENT_BITS: u64 = 0x0C00_0000_0000_0000;
 
 /// The bits of doubleword 0 that the newer layout leaves out.
 const LEFT_OUT: u64 = 0xFFF0_0000_0000_0000;
 
-/// The bit of doubleword 1 that H_ENTER clears.
-const CLEARED: u64 = 0x4000_0000_0000_0000;
-
 /// An entry's doublewords in this layout: none where it can't hold them.
-fn in_layout(layout: Layout, dword0: u64, dword1: u64) -> Option<(u64, u64)>
+pub fn in_layout(layout: Layout, dword0: u64, dword1: u64) -> Option<(u64, u64)>
     ensures { result ≡ laid_out layout (dword0, dword1) }
 {
     match layout {
         Layout::Old => Some((dword0, dword1)),
         Layout::New => {
-            if dword0 & UNHELD != 0 || dword1 & SEGMENT_PLACE != 0 {
+            if dword0 & UNHELD != 0 || dword1 & SEGMENT_BITS != 0 {
                 return None;
             }
             let segment = dword0 >> 62;
@@ -33,11 +31,12 @@ fn in_layout(layout: Layout, dword0: u64, dword1: u64) -> Option<(u64, u64)>
     }
 }
 
-/// The older layout's doublewords of those that were read in this layout.
-fn from_layout(layout: Layout, dword0: u64, dword1: u64) -> Option<(u64, u64)>
+/// The older layout's doublewords of those that were read in this layout: none where a bit is set
+/// that H_ENTER clears, or one that the newer layout leaves out.
+pub fn from_layout(layout: Layout, dword0: u64, dword1: u64) -> Option<(u64, u64)>
     ensures { result ≡ read_words layout (dword0, dword1) }
 {
-    if dword1 & CLEARED != 0 {
+    if dword1 & RESERVED != 0 {
         return None;
     }
     match layout {
@@ -47,7 +46,7 @@ fn from_layout(layout: Layout, dword0: u64, dword1: u64) -> Option<(u64, u64)>
                 return None;
             }
             let segment = dword1 >> 58 & 3;
-            Some((dword0 | segment << 62, dword1 & !SEGMENT_PLACE))
+            Some((dword0 | segment << 62, dword1 & !SEGMENT_BITS))
         }
     }
 }

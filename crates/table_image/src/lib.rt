@@ -9,7 +9,7 @@ mod image;
 mod laws;
 mod layout;
 
-pub use digits::{digits_of, words_of};
+pub use digits::{digits_of, from_layout, in_layout, words_of};
 pub use entry::ImageEntry;
 pub use error::ImageError;
 pub use image::{ImageText, image_text};

@@ -27,7 +27,7 @@ mod windows;
 
 pub use config::{Config, GREATEST_TRACE_ORDER, MOST_PROCESSORS};
 pub use entries::EntryLines;
-pub use forms::is_setting;
+pub use forms::{is_name, is_setting};
 pub use given::{Given, LineRefused};
 pub use laws::{
     none_is_refused_for_a_partition, reads_as_the_input, tables_name_a_grant, text_is_read_by_words,

@@ -60,7 +60,7 @@ impl Machine {
     }
 
     /// Runs a line: on the first window that it names, and on the page table where it names none.
-    /// Its reply takes the place.
+    /// Its reply is put into the slot.
     pub fn line(
         &mut self,
         alloc: Global,

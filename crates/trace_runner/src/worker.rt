@@ -41,7 +41,7 @@ pub struct Worker<L> {
     pub log: L,
 }
 
-/// Runs a line by this pass, and gives the pass behind it. The reply takes the place.
+/// Runs a line by this pass, and gives the pass behind it. The reply is put into the slot.
 fn answer<R: Wait, G: Gate>(
     rt: &R,
     table: &LockTable,
@@ -86,7 +86,7 @@ fn answer<R: Wait, G: Gate>(
 }
 
 /// Runs the worker's own lines among these, in file order, and looks at no other. It takes no
-/// memory: the log has room for their replies, which have one place after the other.
+/// memory: the log has room for their replies, which follow one another.
 pub fn work<R: Wait, G: Gate, L: ReplyLog>(
     rt: &R,
     table: &LockTable,

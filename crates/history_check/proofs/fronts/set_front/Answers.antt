@@ -4,8 +4,8 @@ use Rattle.history_check.specs.FrontKeeping.{kept_front}
 use Rattle.history_check.proofs.ListedFronts.{set_listed, set_kept}
 use Rattle.history_check.proofs.fronts.set_front.Goals as goal
 
-pub returns-then-place-len : goal.returns-then-place-len
-returns-then-place-len c =
+pub returns-then-index-len : goal.returns-then-index-len
+returns-then-index-len c =
     let low : c.args.entry < length c.args.fronts.now.list.items = grind
     (arith, common_steps, c.len.ensures) in
     record {

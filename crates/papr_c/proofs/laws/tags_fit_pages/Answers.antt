@@ -1,5 +1,5 @@
-use Rattle.papr_c.proofs.PagePlaces.{place_of_page, page_of_place}
-use Rattle.papr_c.proofs.laws.places_are_those_of_pages.Goals as goal
+use Rattle.papr_c.proofs.TagPages.{place_of_page, page_of_place}
+use Rattle.papr_c.proofs.laws.tags_fit_pages.Goals as goal
 
 pub returns : goal.returns
 returns c =

@@ -8,7 +8,7 @@ use Rattle.power_addr.proofs.Ranges.{IsKind, small_4k, small_64k, small_16m, lar
 use Rattle.power_addr.proofs.Tags.{tag_of-parts, segment_code-le}
 use Rattle.hpte_fields.specs.Fields.{is_one_tb, segment_code, tag_field}
 use Rattle.hpt_hash.specs.Entries.{number_field}
-use Rattle.papr_c.specs.Decoding.{has_place}
+use Rattle.papr_c.specs.Decoding.{fits_tag}
 use Rattle.hpt_hash.proofs.PageLemmas.{one_tb-code}
 
 -- ---- the parts of a tag
@@ -72,7 +72,7 @@ pub place_of_page :
     → dword0 < 2 ^ 64
     → p.shift ≡ base
     → tag_of p ≡ tag_field dword0
-    → has_place dword0 base ≡ true
+    → fits_tag dword0 base ≡ true
 place_of_page p dword0 base is range shift tag =
     let parts = parts_of_page p dword0 is range tag in
     let code : nat_le (segment_code dword0) 1 ≡ true = le-leb (segment_code dword0) 1
@@ -142,7 +142,7 @@ at_tag true n s large_16g fits low clear =
 pub page_of_place :
     (dword0 base : ℕ)
     → dword0 < 2 ^ 64
-    → has_place dword0 base ≡ true
+    → fits_tag dword0 base ≡ true
     → (p : VirtualPage) × IsPage p × (p.shift ≡ base) × (tag_of p ≡ tag_field dword0)
 page_of_place dword0 base range place =
     let halves = and_parts (nat_le (segment_code dword0) 1 && is_base_shift (is_one_tb dword0) base)

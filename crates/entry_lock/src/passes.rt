@@ -2,7 +2,7 @@
 ghost use Rattle.std.specs.Prelude.{◌≡◌, ◌⊎◌, ℕ, ◌+◌, ◌-◌, ◌<◌, ◌≤◌, ◌^◌, [], ◌∷◌, ◌++◌, length, IfOk, IfErr, IfSome, IfNone, IsOk, MatchBool, if◌then◌else◌};
 ghost use Rattle.hpte_fields.specs.TableSize.{entry_count};
 ghost use Rattle.entry_model.specs.declared.line.Line.{Line as LineOf};
-ghost use Rattle.entry_model.specs.Receipt.{is_access as is_access_of, IsReceiptOf};
+ghost use Rattle.entry_model.specs.Receipt.{is_access, IsReceiptOf};
 ghost use Rattle.entry_model.specs.CachedLines.{IsAccessOf, IsCurrent};
 ghost use Rattle.entry_model.specs.Fronts.{larger, IsGone};
 ghost use Rattle.lock_core.specs.declared.step.Step.TheVariants.{Look, Mark, Split as SplitStep, Join as JoinStep};
@@ -22,13 +22,6 @@ use crate::pause::{NoPause, Pause};
 use crate::plays::{JoinIn, SplitOff};
 use crate::table::{LockTable, Pass};
 use entry_model::{Line, Op, Receipt};
-
-#[inline(always)]
-fn is_access(op: &Op) -> bool
-    ensures { result ≡ is_access_of op.now }
-{
-    matches!(*op, Op::Access { .. })
-}
 
 impl Pass {
     /// How many shares it has.
@@ -58,16 +51,16 @@ impl Pass {
         ensures last { IfErr result
             (λ b. TellsLastStep (view_of self.old) (view_of self.new) entry b) }
         ensures cause { IfErr result
-            (λ b. MatchBool (is_access_of op) (IsChanging b) (IsHeldElsewhere b)) }
+            (λ b. MatchBool (is_access op) (IsChanging b) (IsHeldElsewhere b)) }
         ensures alone { self.old.shares ≡ table.now.passes → IsOk result }
         ensures once { TookAtMost
-            (if is_access_of op then 2 else 1) (view_of self.old) (view_of self.new) }
+            (if is_access op then 2 else 1) (view_of self.old) (view_of self.new) }
         ensures steps { IfOk result
             (λ r. Took (made_steps entry op r) (view_of self.old) (view_of self.new)) }
         ensures busy { IfErr result
             (λ b. TookBusy entry op b (view_of self.old) (view_of self.new)) }
     {
-        if is_access(&op) {
+        if op.is_access() {
             try_access(&table.table.shared, &mut self.seat, entry, op)
         } else {
             try_call(&table.table.shared, &mut self.seat, entry, op, pause)
@@ -91,10 +84,10 @@ impl Pass {
         ensures last { IfErr result
             (λ b. TellsLastStep (view_of self.old) (view_of self.new) entry b) }
         ensures cause { IfErr result
-            (λ b. MatchBool (is_access_of op) (IsChanging b) (IsHeldElsewhere b)) }
+            (λ b. MatchBool (is_access op) (IsChanging b) (IsHeldElsewhere b)) }
         ensures alone { self.old.shares ≡ table.now.passes → IsOk result }
         ensures once { TookAtMost
-            (if is_access_of op then 2 else 1) (view_of self.old) (view_of self.new) }
+            (if is_access op then 2 else 1) (view_of self.old) (view_of self.new) }
         ensures steps { IfOk result
             (λ r. Took (made_steps entry op r) (view_of self.old) (view_of self.new)) }
         ensures busy { IfErr result

@@ -38,8 +38,8 @@ fn changed_to(before: &EntryState, answer: Answer, next: EntryState) -> (Answer,
     (answer, next)
 }
 
-/// The state that H_ENTER makes of an empty entry, but for its stamp.
-fn entered(dword0: u64, dword1: u64) -> EntryState
+/// The state that H_ENTER makes of an empty entry, at stamp 0.
+pub fn entered(dword0: u64, dword1: u64) -> EntryState
     ensures { result ≡ table.entered_state dword0 dword1 }
 {
     EntryState {

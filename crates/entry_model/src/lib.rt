@@ -23,7 +23,7 @@ mod state;
 mod store;
 
 pub use access_reply::{AccessEnd, AccessReply, By, Outcome};
-pub use answering::reply;
+pub use answering::{entered, reply};
 pub use calls::CallList;
 pub use device_reply::{DeviceOutcome, DeviceReply};
 pub use hreply::{HReply, Registers};

@@ -83,6 +83,19 @@ pub enum Answer {
     Worn,
 }
 
+impl Op {
+    ghost use Rattle.std.specs.Prelude.{◌≡◌};
+    ghost use Rattle.entry_model.specs.Receipt.{is_access};
+
+    /// Whether the operation is an access.
+    #[inline(always)]
+    pub fn is_access(&self) -> bool
+        ensures { result ≡ is_access self.now }
+    {
+        matches!(*self, Op::Access { .. })
+    }
+}
+
 impl Answer {
     ghost use Rattle.std.specs.Prelude.{◌≡◌};
     ghost use Rattle.entry_model.specs.Receipt.{is_change};

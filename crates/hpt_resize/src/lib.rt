@@ -14,4 +14,4 @@ pub use carry::{Collision, rehash, rehash_into};
 pub use current::{CommitAnswer, Current};
 pub use holder::StateHolder;
 pub use pending::READY_A_CALL;
-pub use prepared::Resize;
+pub use prepared::{Resize, is_prepare_request};

@@ -4,6 +4,7 @@ ghost use Rattle.entry_model.specs.State.{empty_state};
 ghost use Rattle.hpt_resize.specs.Pending.{no_entries, is_ready, with_more_ready};
 
 use entry_model::EntryState;
+use hpte_fields::entry_count;
 use std::marker::Model;
 
 /// How many entries one call makes ready.
@@ -64,14 +65,14 @@ impl Pending {
     pub fn is_ready(&self) -> bool
         ensures { result ≡ is_ready self.now }
     {
-        self.states.len() == entry_count(self.order)
+        self.states.len() == entry_count(self.order) as usize
     }
 
     /// Makes the next entries ready.
     pub fn advance(&mut self)
         ensures { self.new ≡ with_more_ready self.old }
     {
-        let left = entry_count(self.order) - self.states.len();
+        let left = entry_count(self.order) as usize - self.states.len();
         push_empty(&mut self.states, left.min(READY_A_CALL));
     }
 
@@ -87,14 +88,6 @@ impl Pending {
         } = self;
         states
     }
-}
-
-/// A table of `2^order` bytes has entries of 16 bytes.
-pub fn entry_count(order: u8) -> usize
-    requires order { IsTableOrder order }
-    ensures { result ≡ entry_count order }
-{
-    1 << (order - 4)
 }
 
 // Room for the entries is there, so this takes no memory.

@@ -8,9 +8,9 @@ ghost use Rattle.hpt_resize.specs.Resize.{IsHeld, IsElsewhere, IsTable, prepare_
 
 use crate::carry::rehash;
 use crate::current::{CommitAnswer, Current};
-use crate::pending::{Pending, entry_count};
+use crate::pending::Pending;
 use hpt_pool::Pool;
-use hpte_fields::is_architected_order;
+use hpte_fields::{entry_count, is_architected_order};
 use papr_codes::Rc;
 use std::alloc::{AllocError, Global};
 use std::marker::Model;
@@ -148,7 +148,7 @@ impl Resize {
             return Ok(Rc::Success);
         }
         // Memory comes first: where there is none, the pending table must still stand.
-        let states = Vec::with_capacity(alloc, entry_count(order))?;
+        let states = Vec::with_capacity(alloc, entry_count(order) as usize)?;
         self.drop_pending(pool);
         let Some(place) = pool.take(order) else {
             return Ok(Rc::NoMem);
@@ -199,7 +199,9 @@ impl Resize {
     }
 }
 
-fn is_prepare_request(flags: u64, shift: u64) -> bool
+/// Whether H_RESIZE_HPT_PREPARE may be asked for this: no flag is set, and the order is 0 or one
+/// that the architecture has.
+pub fn is_prepare_request(flags: u64, shift: u64) -> bool
     ensures { result ≡ is_prepare_request flags shift }
 {
     flags == 0 && (shift == 0 || is_architected_order(shift))

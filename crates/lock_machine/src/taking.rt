@@ -1,5 +1,4 @@
 ghost use Rattle.std.specs.Prelude.{◌≡◌, true, false, None, if◌then◌else◌};
-ghost use Rattle.entry_model.specs.Receipt.{is_access as is_access_of};
 ghost use Rattle.lock_core.specs.Steps.{entry_of as entry_by, fits as fits_of, result_without_receipt as going_on, result_with_receipt as ending, with_loaded as loaded_of, with_stored as stored_of, second_look as second_look_of, step_result as result_by, new_doing as begun_by, with_noted as noting_of, shut_entry, locked_entry, settled_entry, marked_entry};
 ghost use Rattle.lock_core.specs.Words.{receipt as receipt_of, next_state as next_of, is_noted as is_noted_of};
 ghost use Rattle.lock_core.specs.declared.phase.Phase.TheVariants.{Idle, Held, HeldShut, Looked};
@@ -7,13 +6,6 @@ ghost use Rattle.lock_core.specs.declared.phase.Phase.TheVariants.{Idle, Held, H
 use crate::words::{changes, is_noted, is_read, is_stored, next_state, same_access};
 use entry_model::{EntryState, Op, Receipt};
 use lock_core::{Doing, Entry, Phase, Step, StepResult, is_still, receipt, settled_word};
-
-/// Whether the operation is an access.
-fn is_access(op: &Op) -> bool
-    ensures { result ≡ is_access_of op.now }
-{
-    matches!(*op, Op::Access { .. })
-}
 
 /// The entry that a step is on.
 pub fn entry_of(phase: &Phase, step: &Step) -> u32
@@ -37,8 +29,8 @@ pub fn fits(entry: &Entry, phase: &Phase, step: &Step) -> bool
     ensures { result ≡ fits_of entry.now phase.now step.now }
 {
     match (*phase, *step) {
-        (Phase::Idle, Step::Lock { entry: _, op }) => !is_access(&op),
-        (Phase::Idle, Step::Look { entry: _, op }) => is_access(&op),
+        (Phase::Idle, Step::Lock { entry: _, op }) => !op.is_access(),
+        (Phase::Idle, Step::Look { entry: _, op }) => op.is_access(),
         (Phase::Held(doing), Step::LoadData { second: _ }) => doing.noted.valid,
         (Phase::Held(doing), Step::Shut) => is_read(&doing) && changes(&doing),
         (Phase::Held(doing), Step::Release) => is_read(&doing) && !changes(&doing),

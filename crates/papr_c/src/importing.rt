@@ -1,5 +1,4 @@
 ghost use Rattle.std.specs.Prelude.{◌≡◌, ◌+◌, ◌*◌, ◌≤◌, ◌<◌, None, IfSome, length};
-ghost use Rattle.entry_model.specs.Reply.{entered_state};
 ghost use Rattle.c_layout.specs.Grants.{listed};
 ghost use Rattle.papr_c.specs.Transfers.{replaced, entries_of_bytes, outcome_of_import};
 ghost use Rattle.c_layout.specs.Entries.{states_of, AreMarked};
@@ -7,20 +6,11 @@ ghost use Rattle.c_layout.specs.Entries.{states_of, AreMarked};
 use crate::transfer::{PaprTransfer, Refusal, is_range, layout_of};
 use byteorder::{BigEndian, ByteOrder};
 use c_layout::{PaprEntry, PaprGrants, is_table};
-use entry_model::{EntryState, Op, reply};
+use entry_model::{EntryState, entered};
 use hpt_resize::StateHolder;
 use hpte_fields::VALID;
 use page_grants::entered_words;
 use table_image::{Layout, from_layout};
-
-/// What H_ENTER makes of an empty entry by these doublewords, at stamp 0.
-fn entered(dword0: u64, dword1: u64) -> EntryState
-    ensures { result ≡ entered_state dword0 dword1 }
-{
-    let (_, mut entry) = reply(&EntryState::empty(0), &Op::Enter { dword0, dword1 });
-    entry.stamp = 0;
-    entry
-}
 
 /// The entry of two doublewords of this layout.
 fn entry_of_words(

@@ -6,7 +6,7 @@ ghost use Rattle.c_layout.specs.Entries.{states_of, AreMarked};
 
 use crate::rehashing::{PaprRehash, carry, clear};
 use c_layout::{PaprEntry, is_table};
-use hpt_resize::READY_A_CALL;
+use hpt_resize::{READY_A_CALL, is_prepare_request};
 use hpte_fields::{GREATEST_ORDER, entry_count, is_architected_order, is_table_order};
 use papr_codes::Rc;
 
@@ -72,13 +72,6 @@ impl PaprResize {
         }
         Ok(self.order)
     }
-}
-
-/// Whether the guest knows no flag, and names no order or one that the architecture has.
-fn is_prepare_request(flags: u64, shift: u64) -> bool
-    ensures { result ≡ Rattle.hpt_resize.specs.Resize.is_prepare_request flags shift }
-{
-    flags == 0 && (shift == 0 || is_architected_order(shift))
 }
 
 /// Makes the next entries of a table of `2^order` bytes ready, of which the first are so already,

@@ -15,7 +15,7 @@ use Rattle.hpt_resize.proofs.StateBack.{state_back}
 use Rattle.table_image.specs.Layouts.{words_of_bytes, laid_out, read_words, new_words, cleared_bit, unheld, segment_bits}
 use Rattle.table_image.specs.declared.layout.Layout.{Layout}
 use Rattle.table_image.specs.declared.layout.Layout.TheVariants.{Old, New}
-use Rattle.table_image.proofs.BitFields.{place_fits, segment_back, first_back, stays_cleared, none_left, second_back}
+use Rattle.table_image.proofs.BitFields.{bits_fit, segment_back, first_back, stays_cleared, none_left, second_back}
 use Rattle.papr_c.specs.Transfers.{entry_bytes, entry_of_bytes, entry_of_words}
 use Rattle.papr_c.specs.TransferLaw.{IsGranted, IsRoundTrip}
 
@@ -58,7 +58,7 @@ new_back h l w small fits clear laid =
           subst (AreBack New (h, l)) is
           (record {
             first = omega arith;
-            second = place_fits l (h / 2 ^ 62) fits s clear_l;
+            second = bits_fit l (h / 2 ^ 62) fits s clear_l;
             read =
                 rw (
                   stays_cleared l (h / 2 ^ 62) s clear_l clear,

@@ -59,9 +59,7 @@ impl Working {
         requires few { passes ≤ most_passes }
         ensures { IfSome result (λ working. workings.IsNew states.items order passes working) }
     {
-        let Some(sharer) = Sharer::open(alloc, states, order, passes) else {
-            return None;
-        };
+        let sharer = Sharer::open(alloc, states, order, passes)?;
         Some(Working::new(sharer))
     }
 
@@ -103,9 +101,7 @@ impl Working {
         ensures split { IfSome result (λ other. workings.IsSplitOff self.old self.new other) }
         ensures same { IfNone result (self.new ≡ self.old) }
     {
-        let Some(sharer) = self.sharer.split() else {
-            return None;
-        };
+        let sharer = self.sharer.split()?;
         Some(Working::new(sharer))
     }
 

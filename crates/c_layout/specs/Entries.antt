@@ -21,7 +21,8 @@ entry_with e state = record {
   marked = e.marked || not (state_eq e.state state);
 }
 
--- So of each entry by the state at its index. An entry without one stays.
+-- The entries, each holding the state at its index in the list of states, if there is one: then an
+-- entry is marked if it was, or if it held another state.
 abbrev pub entries_with : List Entry → List State → List Entry
 entries_with [] states = []
 entries_with (e ∷ es) [] = e ∷ es

@@ -59,9 +59,9 @@ base_shift_of s = option_map_or (λ (size : PageSize). size.base) (size_of s.dwo
 abbrev pub actual_shift_of : State → ℕ
 actual_shift_of s = option_map_or (λ (size : PageSize). size.actual) (size_of s.dword0 s.dword1) 0
 
--- By the receipt of the entry that was found, which now is in this state: the access is allowed, at
--- this logical address, or the entry or a mask refuses it, for these causes. In each case the
--- words, the sizes and the rights are those of the entry as it is now.
+-- How a walk ends by the receipt of the entry that it found, which now is in this state: the access
+-- is allowed, at this logical address, or the entry or a mask refuses it, for these causes. In each
+-- case the words, the sizes and the rights are those of the entry as it is now.
 abbrev pub end_at : PaprAccess → Want → Receipt → State → ℕ → PaprWalk
 end_at a want r now receipts = record {
   logical = if is_at r.answer then logical_of a.ea r.before else 0;
@@ -76,8 +76,8 @@ end_at a want r now receipts = record {
   causes = if is_at r.answer then 0 else causes_of r.before (mode_of a want);
 }
 
--- By the receipt that was found, if there was one: the entry is now as the function has it, by its
--- receipt.
+-- How a walk ends, whether it found an entry or not. The function gives the state that an entry is
+-- in now by its receipt.
 abbrev pub walk_end : (Receipt → State) → PaprAccess → Want → Option Receipt → ℕ → PaprWalk
 walk_end now a want None receipts = no_entry 2 receipts
 walk_end now a want (Some r) receipts = end_at a want r (now r) receipts

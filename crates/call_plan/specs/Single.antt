@@ -48,7 +48,7 @@ code_and_words NotFound words = (rc.NotFound, [])
 code_and_words Worn words = (rc.Hardware, [])
 code_and_words other words = (rc.Success, words)
 
--- By the one receipt.
+-- What a call on one entry tells by its one receipt.
 abbrev pub told_by : (Receipt → List ℕ) → List Receipt → Rc × List ℕ
 told_by words [] = (rc.Parameter, [])
 told_by words (r ∷ rs) = code_and_words r.answer (words r)

@@ -24,7 +24,7 @@ code_of Worn = rc.Hardware
 code_of Taken = rc.Busy
 code_of other = rc.Success
 
--- By the last receipt.
+-- The code of H_PUT_TCE by the last of its receipts.
 abbrev pub code_by_last : List Receipt → Rc
 code_by_last [] = rc.Success
 code_by_last (r ∷ []) = code_of r.answer

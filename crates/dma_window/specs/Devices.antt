@@ -34,7 +34,7 @@ outcome_by grants ioba write tce =
     else Ungranted (logical_of ioba tce))
     else Denied
 
--- By the receipt of the page's entry.
+-- Where a device's access ends by the receipt of its page's entry, or without one.
 abbrev pub outcome_of : List Grant → ℕ → Bool → List Receipt → DeviceOutcome
 outcome_of grants ioba write [] = NoWindow
 outcome_of grants ioba write (r ∷ rs) = outcome_by grants ioba write (tce_of r.before)

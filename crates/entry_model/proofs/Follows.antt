@@ -1,15 +1,13 @@
 -- What an operation leaves of an entry: a higher stamp, or the same entry with further bits.
-use Rattle.std.specs.Prelude.{◌≡◌, ◌+◌, ◌<◌, ◌⊎◌, Bool, true, false, if◌then◌else◌, ◌==◌}
+use Rattle.std.specs.Prelude.{◌≡◌, ◌<◌, ◌⊎◌, Bool, true, false}
 use Rattle.std.proofs.Common.{arith, inl, inr, refl, ◌∙◌}
 use Rattle.std.proofs.lemmas.Bool.{or_left}
-use Rattle.entry_model.specs.State.{State, empty_state, OnlyRaisesBits, Follows}
+use Rattle.entry_model.specs.State.{State, OnlyRaisesBits, Follows}
 use Rattle.entry_model.specs.declared.operation.Answer.{Answer}
-use Rattle.entry_model.specs.declared.operation.Answer.TheVariants.{Entered, Taken, Removed, Protected, Was, NotFound, NoMatch, Denied, Masked, At, Worn}
 use Rattle.entry_model.specs.declared.operation.Op.{Op}
-use Rattle.entry_model.specs.declared.operation.Op.TheVariants.{Enter, Remove, Protect, Read, ClearRef, ClearMod, Access}
-use Rattle.entry_model.specs.Reply.{reply_of, change_to, change_where, entered_state, is_found, is_match, answer_of_match, answer_of_allowed, masks_refuse, is_allowed, touched_state, is_store, access_mode}
+use Rattle.entry_model.specs.Reply.{reply_of, touched_state, is_store}
 use Rattle.entry_model.specs.History.{bits}
-use Rattle.hpte_fields.specs.Fields.{protected_word}
+use Rattle.entry_model.proofs.Replied.{Replied, replied, left, changed, accessed}
 use Rattle.storage_prot.specs.declared.want.Want.{Want}
 
 pub no_further : (s : State) → OnlyRaisesBits s s
@@ -90,28 +88,6 @@ same_or_more s t h =
       at (inr more) = inr more
 
 -- ---- replies
--- A reply that is one of two.
-pub either_follows :
-    (b : Bool) (s : State) (p q : Answer × State)
-    → Follows s p.1
-    → Follows s q.1
-    → Follows s (if◌then◌else◌ {A = Answer × State} b p q).1
-either_follows true s p q h k = h
-either_follows false s p q h k = k
-
-changed_follows :
-    (s : State) (answer : Answer) (next : State) → Follows s (change_to s answer next).1
-changed_follows s answer next =
-    either_follows (s.stamp == 0xFFFFFFFF) s (Worn, s) (answer, record next { stamp = s.stamp + 1 })
-    (stays s) (inr (omega arith))
-
-where_follows :
-    (found : Bool) (s : State) (answer : Answer) (next : State)
-    → Follows s (change_where found s answer next).1
-where_follows found s answer next =
-    either_follows found s (change_to s answer next) (NotFound, s) (changed_follows s answer next)
-    (stays s)
-
 pub touched_further : (s : State) (want : Want) → OnlyRaisesBits s (touched_state s want)
 touched_further s want =
     record {
@@ -124,21 +100,8 @@ touched_further s want =
     }
 
 pub reply_follows : (s : State) (o : Op) → Follows s (reply_of s o).1
-reply_follows s (Enter dword0 dword1) =
-    either_follows s.valid s (Taken, s) (change_to s Entered (entered_state dword0 dword1))
-    (stays s) (changed_follows s Entered (entered_state dword0 dword1))
-reply_follows s (Remove test) = where_follows (is_found s test) s Removed (empty_state 0)
-reply_follows s (Protect test flags) =
-    where_follows (is_found s test) s Protected
-    (record s { dword1 = protected_word s.dword1 flags })
-reply_follows s Read = stays s
-reply_follows s ClearRef = where_follows s.valid s Was (record s { referenced = false })
-reply_follows s ClearMod = where_follows s.valid s Was (record s { changed = false })
-reply_follows s (Access tag base key no_execute want masks) =
-    either_follows (is_match s tag base) s
-    (answer_of_match s (access_mode key no_execute want masks)) (NoMatch, s)
-    (either_follows (is_allowed s (access_mode key no_execute want masks)) s
-    (answer_of_allowed s (access_mode key no_execute want masks)) (Denied, s)
-    (either_follows (masks_refuse s (access_mode key no_execute want masks)) s (Masked, s)
-    (At, touched_state s want) (stays s) (inl (touched_further s want))) (stays s))
-    (stays s)
+reply_follows s o = at (replied s o) where
+  at : {op : Op} {x : Answer × State} → Replied s op x → Follows s x.1
+  at (left a is) = stays s
+  at (changed a next changes is) = inr (omega arith)
+  at (accessed tag base key no_execute want masks valid) = inl (touched_further s want)

@@ -1,20 +1,18 @@
 -- How far receipts raise an entry's stamp. A removal pays with the entry that it empties, so that
 -- only other receipts count.
 use Rattle.std.specs.Prelude.{if◌then◌else◌, ◌==◌, filter, MatchBool}
-use Rattle.std.proofs.Common.{◌≡◌, ℕ, ◌+◌, ◌≤◌, List, [], ◌∷◌, ◌++◌, Bool, true, false, cond, ap, ◌∙◌, refl, arith}
-use Rattle.std.proofs.lemmas.Bool.{and_parts, eqb-true}
-use Rattle.hpte_fields.specs.Fields.{protected_word}
-use Rattle.entry_model.specs.State.{State, empty_state}
+use Rattle.std.proofs.Common.{◌≡◌, ℕ, ◌+◌, ◌≤◌, List, [], ◌∷◌, ◌++◌, Bool, true, false, cond, ap, sym, ◌∙◌, refl, arith}
+use Rattle.std.proofs.lemmas.Bool.{false≢true}
+use Rattle.entry_model.specs.State.{State}
 use Rattle.entry_model.specs.declared.operation.Answer.{Answer}
 use Rattle.entry_model.specs.declared.operation.Op.{Op}
-use Rattle.entry_model.specs.declared.operation.Test.{Test}
 use Rattle.entry_model.specs.declared.receipt.Receipt.{Receipt}
 use Rattle.entry_model.specs.Receipt.{is_worn, is_at}
-use Rattle.entry_model.specs.Reply.{reply_of, change_to, change_where, entered_state, is_found, is_match, answer_of_match, answer_of_allowed, masks_refuse, is_allowed, touched_state, access_mode}
+use Rattle.entry_model.specs.Reply.{reply_of}
 use Rattle.entry_model.specs.History.{history, Regrouped, nothing, kept, swapped, twice}
 use Rattle.entry_model.specs.Trial.{Call, IsTrial}
 use Rattle.entry_model.proofs.Regroup.{sort_regroups}
-use Rattle.entry_model.specs.declared.operation.Answer.TheVariants as answers
+use Rattle.entry_model.proofs.Replied.{Changes, enters, removes, protects, clears_r, clears_c, Replied, replied, left, changed, accessed}
 use Rattle.entry_model.specs.declared.operation.Op.TheVariants as ops
 
 -- ---- one operation
@@ -27,78 +25,22 @@ abbrev pub cost : Op → ℕ
 cost (ops.Remove test) = 0
 cost other = 2
 
-abbrev Raises : ℕ → State → Answer × State → Type 0
-Raises n s x = height x.1 ≤ height s + n
-
-either_raises :
-    (b : Bool) (n : ℕ) (s : State) (p q : Answer × State)
-    → (b ≡ true → Raises n s p)
-    → (b ≡ false → Raises n s q)
-    → Raises n s (if◌then◌else◌ {A = Answer × State} b p q)
-either_raises true n s p q h k = h refl
-either_raises false n s p q h k = k refl
-
-stays_low : (n : ℕ) (s : State) (answer : Answer) → Raises n s (answer, s)
-stays_low n s answer = omega arith
-
-changed_raises :
-    (n : ℕ) (s : State) (answer : Answer) (next : State)
-    → height (record next { stamp = s.stamp + 1 }) ≤ height s + n
-    → Raises n s (change_to s answer next)
-changed_raises n s answer next h =
-    either_raises (s.stamp == 0xFFFFFFFF) n s (answers.Worn, s)
-    (answer, record next { stamp = s.stamp + 1 }) (λ _. stays_low n s answers.Worn) (λ _. h)
-
-where_raises :
-    (found : Bool) (n : ℕ) (s : State) (answer : Answer) (next : State)
-    → (found ≡ true → height (record next { stamp = s.stamp + 1 }) ≤ height s + n)
-    → Raises n s (change_where found s answer next)
-where_raises found n s answer next h =
-    either_raises found n s (change_to s answer next) (answers.NotFound, s)
-    (λ e. changed_raises n s answer next (h e)) (λ _. stays_low n s answers.NotFound)
-
-emptied_low :
-    (s : State) (test : Test)
-    → is_found s test ≡ true
-    → height (empty_state (s.stamp + 1)) ≤ height s + 0
-emptied_low s test found =
-    let valid : s.valid ≡ true = (and_parts s.valid _ found).0 in
-    rw valid (omega arith)
-
-entered_low :
-    (s : State) (dword0 dword1 : ℕ)
-    → height (record (entered_state dword0 dword1) { stamp = s.stamp + 1 }) ≤ height s + 2
-entered_low s dword0 dword1 = omega arith
+changed_low :
+    (s : State) {op : Op} {a : Answer} {next : State}
+    → Changes s op a next
+    → height (record next { stamp = s.stamp + 1 }) ≤ height s + cost op
+changed_low s (enters dword0 dword1 valid) = omega arith
+changed_low s (removes test valid) = rw valid (omega arith)
+changed_low s (protects test flags valid) = omega arith
+changed_low s (clears_r valid) = omega arith
+changed_low s (clears_c valid) = omega arith
 
 pub reply_raises : (s : State) (op : Op) → height (reply_of s op).1 ≤ height s + cost op
-reply_raises s (ops.Enter dword0 dword1) =
-    either_raises s.valid 2 s (answers.Taken, s)
-    (change_to s answers.Entered (entered_state dword0 dword1))
-    (λ _. stays_low 2 s answers.Taken)
-    (λ _.
-    changed_raises 2 s answers.Entered (entered_state dword0 dword1)
-    (entered_low s dword0 dword1))
-reply_raises s (ops.Remove test) =
-    where_raises (is_found s test) 0 s answers.Removed (empty_state 0) (emptied_low s test)
-reply_raises s (ops.Protect test flags) =
-    where_raises (is_found s test) 2 s answers.Protected
-    (record s { dword1 = protected_word s.dword1 flags }) (λ _. omega arith)
-reply_raises s ops.Read = stays_low 2 s answers.Words
-reply_raises s ops.ClearRef =
-    where_raises s.valid 2 s answers.Was (record s { referenced = false }) (λ _. omega arith)
-reply_raises s ops.ClearMod =
-    where_raises s.valid 2 s answers.Was (record s { changed = false }) (λ _. omega arith)
-reply_raises s (ops.Access tag base key no_execute want masks) =
-    either_raises (is_match s tag base) 2 s
-    (answer_of_match s (access_mode key no_execute want masks)) (answers.NoMatch, s)
-    (λ _.
-    either_raises (is_allowed s (access_mode key no_execute want masks)) 2 s
-    (answer_of_allowed s (access_mode key no_execute want masks)) (answers.Denied, s)
-    (λ _.
-    either_raises (masks_refuse s (access_mode key no_execute want masks)) 2 s
-    (answers.Masked, s) (answers.At, touched_state s want)
-    (λ _. stays_low 2 s answers.Masked) (λ _. omega arith))
-    (λ _. stays_low 2 s answers.Denied)) (λ _. stays_low 2 s answers.NoMatch)
+reply_raises s op = at (replied s op) where
+  at : {op : Op} {x : Answer × State} → Replied s op x → height x.1 ≤ height s + cost op
+  at (left a is) = omega arith
+  at (changed a next changes is) = changed_low s changes
+  at (accessed tag base key no_execute want masks valid) = omega arith
 
 -- ---- several receipts
 -- The costs of the operations of these receipts, added up.
@@ -170,90 +112,18 @@ trial_weight goes (c ∷ cs) (r ∷ rs) h =
     (λ k. trial_weight goes cs rs k)
 
 -- ---- what the answers tell of the state before
--- P holds where the answer passes the test.
-abbrev Tells : (Answer → Bool) → Type 0 → Answer × State → Type 0
-Tells test P x = test x.0 ≡ true → P
-
-either_tells :
-    (b : Bool) (test : Answer → Bool) (P : Type 0) (p q : Answer × State)
-    → (b ≡ true → Tells test P p)
-    → (b ≡ false → Tells test P q)
-    → Tells test P (if◌then◌else◌ {A = Answer × State} b p q)
-either_tells true test P p q h k = h refl
-either_tells false test P p q h k = k refl
-
-changed_worn :
-    (s : State) (answer : Answer) (next : State)
-    → is_worn answer ≡ false
-    → Tells is_worn (s.stamp ≡ 0xFFFFFFFF) (change_to s answer next)
-changed_worn s answer next other =
-    either_tells (s.stamp == 0xFFFFFFFF) is_worn (s.stamp ≡ 0xFFFFFFFF) (answers.Worn, s)
-    (answer, record next { stamp = s.stamp + 1 }) (λ e h. eqb-true s.stamp 0xFFFFFFFF e)
-    (λ _ h. cc)
-
-where_worn :
-    (found : Bool) (s : State) (answer : Answer) (next : State)
-    → is_worn answer ≡ false
-    → Tells is_worn (s.stamp ≡ 0xFFFFFFFF) (change_where found s answer next)
-where_worn found s answer next other =
-    either_tells found is_worn (s.stamp ≡ 0xFFFFFFFF) (change_to s answer next)
-    (answers.NotFound, s) (λ _. changed_worn s answer next other) (λ _ h. cc)
-
 -- Worn comes at the last stamp alone.
 pub worn_last : (s : State) (op : Op) → is_worn (reply_of s op).0 ≡ true → s.stamp ≡ 0xFFFFFFFF
-worn_last s (ops.Enter dword0 dword1) =
-    either_tells s.valid is_worn (s.stamp ≡ 0xFFFFFFFF) (answers.Taken, s)
-    (change_to s answers.Entered (entered_state dword0 dword1)) (λ _ h. cc)
-    (λ _. changed_worn s answers.Entered (entered_state dword0 dword1) refl)
-worn_last s (ops.Remove test) = where_worn (is_found s test) s answers.Removed (empty_state 0) refl
-worn_last s (ops.Protect test flags) =
-    where_worn (is_found s test) s answers.Protected
-    (record s { dword1 = protected_word s.dword1 flags }) refl
-worn_last s ops.Read = λ h. cc
-worn_last s ops.ClearRef = where_worn s.valid s answers.Was (record s { referenced = false }) refl
-worn_last s ops.ClearMod = where_worn s.valid s answers.Was (record s { changed = false }) refl
-worn_last s (ops.Access tag base key no_execute want masks) =
-    either_tells (is_match s tag base) is_worn (s.stamp ≡ 0xFFFFFFFF)
-    (answer_of_match s (access_mode key no_execute want masks)) (answers.NoMatch, s)
-    (λ _.
-    either_tells (is_allowed s (access_mode key no_execute want masks)) is_worn
-    (s.stamp ≡ 0xFFFFFFFF) (answer_of_allowed s (access_mode key no_execute want masks))
-    (answers.Denied, s)
-    (λ _.
-    either_tells (masks_refuse s (access_mode key no_execute want masks)) is_worn
-    (s.stamp ≡ 0xFFFFFFFF) (answers.Masked, s) (answers.At, touched_state s want)
-    (λ _ h. cc) (λ _ h. cc)) (λ _ h. cc)) (λ _ h. cc)
-
-changed_at :
-    (s : State) (answer : Answer) (next : State)
-    → is_at answer ≡ false
-    → Tells is_at (s.valid ≡ true) (change_to s answer next)
-changed_at s answer next other =
-    either_tells (s.stamp == 0xFFFFFFFF) is_at (s.valid ≡ true) (answers.Worn, s)
-    (answer, record next { stamp = s.stamp + 1 }) (λ _ h. cc) (λ _ h. cc)
-
-where_at :
-    (found : Bool) (s : State) (answer : Answer) (next : State)
-    → is_at answer ≡ false
-    → Tells is_at (s.valid ≡ true) (change_where found s answer next)
-where_at found s answer next other =
-    either_tells found is_at (s.valid ≡ true) (change_to s answer next) (answers.NotFound, s)
-    (λ _. changed_at s answer next other) (λ _ h. cc)
+worn_last s op = at (replied s op) where
+  at : {op : Op} {x : Answer × State} → Replied s op x → is_worn x.0 ≡ true → s.stamp ≡ 0xFFFFFFFF
+  at (left a is) h = is.worn h
+  at (changed a next changes is) h = absurd (false≢true (sym is.no_worn ∙ h))
+  at (accessed tag base key no_execute want masks valid) h = cc
 
 -- An access is allowed by an entry that is valid.
 pub at_valid : (s : State) (op : Op) → is_at (reply_of s op).0 ≡ true → s.valid ≡ true
-at_valid s (ops.Enter dword0 dword1) =
-    either_tells s.valid is_at (s.valid ≡ true) (answers.Taken, s)
-    (change_to s answers.Entered (entered_state dword0 dword1)) (λ _ h. cc)
-    (λ _. changed_at s answers.Entered (entered_state dword0 dword1) refl)
-at_valid s (ops.Remove test) = where_at (is_found s test) s answers.Removed (empty_state 0) refl
-at_valid s (ops.Protect test flags) =
-    where_at (is_found s test) s answers.Protected
-    (record s { dword1 = protected_word s.dword1 flags }) refl
-at_valid s ops.Read = λ h. cc
-at_valid s ops.ClearRef = where_at s.valid s answers.Was (record s { referenced = false }) refl
-at_valid s ops.ClearMod = where_at s.valid s answers.Was (record s { changed = false }) refl
-at_valid s (ops.Access tag base key no_execute want masks) =
-    either_tells (is_match s tag base) is_at (s.valid ≡ true)
-    (answer_of_match s (access_mode key no_execute want masks)) (answers.NoMatch, s)
-    (λ e _. (and_parts s.valid _ e).0) (λ _ h. cc)
+at_valid s op = at (replied s op) where
+  at : {op : Op} {x : Answer × State} → Replied s op x → is_at x.0 ≡ true → s.valid ≡ true
+  at (left a is) h = absurd (false≢true (sym is.no_at ∙ h))
+  at (changed a next changes is) h = absurd (false≢true (sym is.no_at ∙ h))
+  at (accessed tag base key no_execute want masks valid) h = valid

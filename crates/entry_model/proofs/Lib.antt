@@ -1,5 +1,6 @@
 pub mod Exact
 pub mod Runs
+pub mod Replied
 pub mod Follows
 pub mod RunFollows
 pub mod OperationLaws

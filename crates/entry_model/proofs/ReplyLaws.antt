@@ -1,13 +1,13 @@
 -- The laws of replies that are stated by words of their own.
-use Rattle.std.proofs.Common.{◌≡◌, true, false, ap}
+use Rattle.std.proofs.Common.{◌≡◌, true, false, refl, sym, ◌∙◌}
 use Rattle.std.proofs.lemmas.Bool.{false≢true}
 use Rattle.entry_model.specs.State.{State, OnlyRaisesBits}
 use Rattle.entry_model.specs.declared.operation.Answer.{Answer}
 use Rattle.entry_model.specs.declared.operation.Op.{Op}
-use Rattle.entry_model.specs.declared.operation.Op.TheVariants.{Enter, Remove, Protect, Read, ClearRef, ClearMod, Access}
 use Rattle.entry_model.specs.Reply.{reply_of}
 use Rattle.entry_model.specs.Receipt.{is_access}
-use Rattle.entry_model.proofs.OperationLaws.{access_further, access_still, access_of_empty}
+use Rattle.entry_model.proofs.OperationLaws.{access_further, access_still}
+use Rattle.entry_model.proofs.Replied.{Replied, replied, left, changed, accessed}
 
 pub only_raises : (s : State) (op : Op) → is_access op ≡ true → OnlyRaisesBits s (reply_of s op).1
 only_raises s op access = access_further s op access
@@ -22,11 +22,14 @@ still_accesses s t op access more = access_still s t op access more
 
 pub empty_untouched :
     (s : State) (op : Op) → is_access op ≡ true → s.valid ≡ false → (reply_of s op).1 ≡ s
-empty_untouched s (Access tag base key no_execute want masks) access none =
-    ap (λ (p : Answer × State). p.1) (access_of_empty s tag base key no_execute want masks none)
-empty_untouched s (Enter dword0 dword1) access none = absurd (false≢true access)
-empty_untouched s (Remove test) access none = absurd (false≢true access)
-empty_untouched s (Protect test flags) access none = absurd (false≢true access)
-empty_untouched s Read access none = absurd (false≢true access)
-empty_untouched s ClearRef access none = absurd (false≢true access)
-empty_untouched s ClearMod access none = absurd (false≢true access)
+empty_untouched s op = at (replied s op) where
+  at :
+      {op : Op} {x : Answer × State}
+      → Replied s op x
+      → is_access op ≡ true
+      → s.valid ≡ false
+      → x.1 ≡ s
+  at (left a is) access none = refl
+  at (changed a next changes is) access none = absurd (false≢true (sym is.access ∙ access))
+  at (accessed tag base key no_execute want masks valid) access none =
+      absurd (false≢true (sym none ∙ valid))

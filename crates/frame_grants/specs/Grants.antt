@@ -102,11 +102,12 @@ with_grant granted grant =
 abbrev pub holds : ℕ → ℕ → Grant → Bool
 holds logical length grant = range_within logical length grant.logical grant.length
 
--- The machine address at the same distance, and what lies there.
+-- The machine address as far into the grant as the logical one, and what lies there.
 abbrev pub machine_at : ℕ → Grant → ℕ × Kind
 machine_at logical grant = (grant.machine + (logical - grant.logical), grant.kind)
 
--- By the grant that holds the whole range; none for a range of no byte.
+-- Where a logical range lies in machine memory, and the kind, by the grant that holds the whole of
+-- it; none for a range of no byte.
 unfoldable pub machine_range : List Grant → ℕ → ℕ → Option (ℕ × Kind)
 machine_range grants logical length =
     if length == 0

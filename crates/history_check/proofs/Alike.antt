@@ -9,16 +9,15 @@ use Rattle.entry_model.specs.State.{State, empty_state}
 use Rattle.entry_model.specs.declared.operation.Op.{Op}
 use Rattle.entry_model.specs.declared.operation.Op.TheVariants as ops
 use Rattle.entry_model.specs.declared.operation.Answer.{Answer}
-use Rattle.entry_model.specs.declared.operation.Answer.TheVariants as answers
 use Rattle.entry_model.specs.declared.receipt.Receipt.{Receipt}
 use Rattle.entry_model.specs.Receipt.{after_of, is_at, is_change}
-use Rattle.entry_model.specs.Reply.{reply_of, change_to, change_where, entered_state, is_found, is_match, is_allowed, masks_refuse, access_mode, answer_of_match, answer_of_allowed, touched_state, is_store}
+use Rattle.entry_model.specs.Reply.{reply_of, entered_state, touched_state, is_store}
 use Rattle.entry_model.specs.History.{IsLegal, history, by_place, put_in, precedes, place, pair_of, state_eq}
 use Rattle.basics.specs.Words.{bool_eq}
 use Rattle.entry_model.proofs.Sorted.{state_self}
 use Rattle.receipt_text.specs.Receipts.{mark_of}
+use Rattle.entry_model.proofs.Replied.{Changes, enters, removes, protects, clears_r, clears_c, Replied, replied, left, changed, accessed}
 use Rattle.history_check.specs.Steps.{step_op, is_unchanged}
-use Rattle.authority_mask.specs.Authority.{no_masks}
 
 -- The operation is a store of a processor.
 abbrev pub is_store_access : Op → Bool
@@ -75,64 +74,25 @@ after_by op answer s =
     if is_change answer then record (next_by op s) { stamp = s.stamp + 1 } else if is_at answer
     then next_by op s else s
 
-pub either_P :
-    (b : Bool) (p q : Answer × State) (P : Answer × State → Type 0)
-    → P p
-    → P q
-    → P (if◌then◌else◌ {A = Answer × State} b p q)
-either_P true p q P h k = h
-either_P false p q P h k = k
-
 abbrev IsAfter : Op → State → Answer × State → Type 0
 IsAfter op s x = x.1 ≡ after_by op x.0 s
 
-pub changed_after :
-    (s : State) (answer : Answer) (next : State) (P : Answer × State → Type 0)
-    → P (answers.Worn, s)
-    → P (answer, record next { stamp = s.stamp + 1 })
-    → P (change_to s answer next)
-changed_after s answer next P h k =
-    either_P (s.stamp == 0xFFFFFFFF) (answers.Worn, s) (answer, record next { stamp = s.stamp + 1 })
-    P h k
-
-pub where_after :
-    (found : Bool) (s : State) (answer : Answer) (next : State) (P : Answer × State → Type 0)
-    → P (answers.NotFound, s)
-    → P (answers.Worn, s)
-    → P (answer, record next { stamp = s.stamp + 1 })
-    → P (change_where found s answer next)
-where_after found s answer next P g h k =
-    either_P found (change_to s answer next) (answers.NotFound, s) P
-    (changed_after s answer next P h k) g
+change_after :
+    (s : State) {op : Op} {a : Answer} {next : State}
+    → Changes s op a next
+    → IsAfter (step_op op) s (a, record next { stamp = s.stamp + 1 })
+change_after s (enters a b valid) = refl
+change_after s (removes test valid) = refl
+change_after s (protects test flags valid) = refl
+change_after s (clears_r valid) = refl
+change_after s (clears_c valid) = refl
 
 after_is : (s : State) (op : Op) → IsAfter (step_op op) s (reply_of s op)
-after_is s (ops.Enter a b) =
-    either_P s.valid (answers.Taken, s) (change_to s answers.Entered (entered_state a b))
-    (IsAfter (ops.Enter a b) s) refl
-    (changed_after s answers.Entered (entered_state a b) (IsAfter (ops.Enter a b) s) refl refl)
-after_is s (ops.Remove test) =
-    where_after (is_found s test) s answers.Removed (empty_state 0) (IsAfter (ops.Remove test) s)
-    refl refl refl
-after_is s (ops.Protect test flags) =
-    where_after (is_found s test) s answers.Protected
-    (record s { dword1 = protected_word s.dword1 flags }) (IsAfter (ops.Protect test flags) s)
-    refl refl refl
-after_is s ops.Read = refl
-after_is s ops.ClearRef =
-    where_after s.valid s answers.Was (record s { referenced = false }) (IsAfter ops.ClearRef s)
-    refl refl refl
-after_is s ops.ClearMod =
-    where_after s.valid s answers.Was (record s { changed = false }) (IsAfter ops.ClearMod s) refl
-    refl refl
-after_is s (ops.Access t b k n w masks) =
-    either_P (is_match s t b) (answer_of_match s (access_mode k n w masks)) (answers.NoMatch, s)
-    (IsAfter (ops.Access 0 0 false false w no_masks) s)
-    (either_P (is_allowed s (access_mode k n w masks))
-    (answer_of_allowed s (access_mode k n w masks)) (answers.Denied, s)
-    (IsAfter (ops.Access 0 0 false false w no_masks) s)
-    (either_P (masks_refuse s (access_mode k n w masks)) (answers.Masked, s)
-    (answers.At, touched_state s w)
-    (IsAfter (ops.Access 0 0 false false w no_masks) s) refl refl) refl) refl
+after_is s op = at (replied s op) where
+  at : {op : Op} {x : Answer × State} → Replied s op x → IsAfter (step_op op) s x
+  at (left a is) = rw (is.no_change, is.no_at) refl
+  at (changed a next changes is) = change_after s changes
+  at (accessed tag base key no_execute want masks valid) = refl
 
 alike_after : (x y : Receipt) → Alike x y → x.before ≡ y.before → after_of x ≡ after_of y
 alike_after x y h e =
@@ -184,41 +144,12 @@ abbrev IsUnchanged : Op → State → Answer × State → Type 0
 IsUnchanged op s x = state_eq x.1 s ≡ is_unchanged (is_store_access op) x.0 s.referenced s.changed
 
 unchanged_is : (s : State) (op : Op) → IsUnchanged (step_op op) s (reply_of s op)
-unchanged_is s (ops.Enter a b) =
-    either_P s.valid (answers.Taken, s) (change_to s answers.Entered (entered_state a b))
-    (IsUnchanged (ops.Enter a b) s) (state_self s)
-    (changed_after s answers.Entered (entered_state a b) (IsUnchanged (ops.Enter a b) s)
-    (state_self s)
-    (above_stamp s (record (entered_state a b) { stamp = s.stamp + 1 }) refl))
-unchanged_is s (ops.Remove test) =
-    where_after (is_found s test) s answers.Removed (empty_state 0)
-    (IsUnchanged (ops.Remove test) s) (state_self s) (state_self s)
-    (above_stamp s (record (empty_state 0) { stamp = s.stamp + 1 }) refl)
-unchanged_is s (ops.Protect test flags) =
-    where_after (is_found s test) s answers.Protected
-    (record s { dword1 = protected_word s.dword1 flags })
-    (IsUnchanged (ops.Protect test flags) s) (state_self s) (state_self s)
-    (above_stamp s (record s { dword1 = protected_word s.dword1 flags; stamp = s.stamp + 1 })
-    refl)
-unchanged_is s ops.Read = state_self s
-unchanged_is s ops.ClearRef =
-    where_after s.valid s answers.Was (record s { referenced = false }) (IsUnchanged ops.ClearRef s)
-    (state_self s) (state_self s)
-    (above_stamp s (record s { referenced = false; stamp = s.stamp + 1 }) refl)
-unchanged_is s ops.ClearMod =
-    where_after s.valid s answers.Was (record s { changed = false }) (IsUnchanged ops.ClearMod s)
-    (state_self s) (state_self s)
-    (above_stamp s (record s { changed = false; stamp = s.stamp + 1 }) refl)
-unchanged_is s (ops.Access t b k n w masks) =
-    either_P (is_match s t b) (answer_of_match s (access_mode k n w masks)) (answers.NoMatch, s)
-    (IsUnchanged (ops.Access 0 0 false false w no_masks) s)
-    (either_P (is_allowed s (access_mode k n w masks))
-    (answer_of_allowed s (access_mode k n w masks)) (answers.Denied, s)
-    (IsUnchanged (ops.Access 0 0 false false w no_masks) s)
-    (either_P (masks_refuse s (access_mode k n w masks)) (answers.Masked, s)
-    (answers.At, touched_state s w)
-    (IsUnchanged (ops.Access 0 0 false false w no_masks) s) (state_self s)
-    (touched_eq s w)) (state_self s)) (state_self s)
+unchanged_is s op = at (replied s op) where
+  at : {op : Op} {x : Answer × State} → Replied s op x → IsUnchanged (step_op op) s x
+  at (left a is) = rw (is.no_change, is.no_at) (state_self s)
+  at (changed a next changes is) =
+      rw is.change (above_stamp s (record next { stamp = s.stamp + 1 }) refl)
+  at (accessed tag base key no_execute want masks valid) = touched_eq s want
 
 pub flag_of :
     (r : Receipt)

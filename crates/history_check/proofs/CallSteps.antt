@@ -1,6 +1,6 @@
 -- The operations of a hypervisor call: what is kept of each of them, and how many there are.
 use Rattle.std.proofs.Common.{◌≡◌, ℕ, ◌≤◌, List, [], ◌∷◌, Bool, true, false, ap, ◌∙◌, refl, map, length, arith, Option, Some, None}
-use Rattle.std.specs.Prelude.{nat_lt, ◌*◌, ◌/◌, ◌||◌, slice_index}
+use Rattle.std.specs.Prelude.{nat_lt, ◌*◌, ◌/◌, ◌||◌, ◌==◌, slice_index}
 use Rattle.std.specs.List.{AllByRecursion, range_with_len}
 use Rattle.std.specs.Option.{option_map_or}
 use Rattle.std.proofs.lemmas.Bool.{cond_both}
@@ -34,7 +34,7 @@ use Rattle.run_model.specs.StoreContexts.{StoreContext}
 use Rattle.run_model.specs.LineReplies.{put_plan, get_plan, hcall_plan}
 use Rattle.history_check.specs.Steps.{step_op, unless_worn, ops_of}
 use Rattle.history_check.specs.PlacedSteps.{enter_op, tce_op, call_op}
-use Rattle.history_check.proofs.Alike.{is_store_access, either_P, changed_after, where_after}
+use Rattle.history_check.proofs.Alike.{is_store_access}
 use Rattle.call_plan.proofs.RemovalCalls.{calls_few, pairs_few}
 
 -- ---- what is kept
@@ -119,8 +119,11 @@ removal_keeps tce =
       stores = refl;
       each =
           λ s.
-          where_after (is_found s no_test) s answers.Removed (empty_state 0)
-          (IsTold tce (ops.Remove no_test)) refl refl refl;
+          let P : Answer × State → Type 0 = IsTold tce (ops.Remove no_test) in
+          cond_both (is_found s no_test) (change_to s answers.Removed (empty_state 0))
+          (answers.NotFound, s) P
+          (λ _. cond_both (s.stamp == 0xFFFFFFFF) _ _ P (λ _. refl) (λ _. refl))
+          (λ _. refl);
     }
 
 entering_keeps : (tce : ℕ) → Keeps false (tce_op tce) (ops.Enter (first_word tce) (second_word tce))
@@ -131,10 +134,9 @@ entering_keeps tce =
       stores = refl;
       each =
           λ s.
-          either_P s.valid (answers.Taken, s) (change_to s answers.Entered (entered_state a b))
-          (IsTold tce (ops.Enter a b)) refl
-          (changed_after s answers.Entered (entered_state a b) (IsTold tce (ops.Enter a b))
-          refl refl);
+          let P : Answer × State → Type 0 = IsTold tce (ops.Enter a b) in
+          cond_both s.valid (answers.Taken, s) (change_to s answers.Entered (entered_state a b)) P
+          (λ _. refl) (λ _. cond_both (s.stamp == 0xFFFFFFFF) _ _ P (λ _. refl) (λ _. refl));
     }
 
 put_at_keeps :

@@ -1,13 +1,13 @@
 -- Given each state before, calls have one trial, and a line has one reply.
-use Rattle.std.proofs.Common.{length, arith, ◌≡◌, ℕ, ◌+◌, List, [], ◌∷◌, Bool, true, false, ap, sym, ◌∙◌, refl, ◌⊎◌, inl, inr, map, MatchBool, Option, Some, None}
-use Rattle.std.specs.Prelude.{◌||◌, ◌==◌, drop, nat_lt, ◌-◌, ◌^◌, slice_index}
+use Rattle.std.proofs.Common.{length, arith, ◌≡◌, ℕ, List, [], ◌∷◌, Bool, true, false, ap, sym, ◌∙◌, refl, ◌⊎◌, inl, inr, map, MatchBool, Option, Some, None}
+use Rattle.std.specs.Prelude.{◌||◌, drop, nat_lt, ◌-◌, ◌^◌, slice_index}
 use Rattle.std.specs.List.{AllByRecursion}
 use Rattle.std.specs.Option.{option_map_or}
 use Rattle.std.proofs.lemmas.Bool.{cases_Bool, cond_both, or_from}
 use Rattle.papr_codes.specs.declared.calls.Hcall.{Hcall}
 use Rattle.papr_codes.specs.declared.calls.Hcall.TheVariants as calls
 use Rattle.papr_codes.specs.declared.codes.Rc.TheVariants as rc
-use Rattle.entry_model.specs.State.{State, empty_state}
+use Rattle.entry_model.specs.State.{State}
 use Rattle.entry_model.specs.declared.operation.Op.{Op}
 use Rattle.entry_model.specs.declared.operation.Op.TheVariants as ops
 use Rattle.entry_model.specs.declared.operation.Answer.{Answer}
@@ -23,8 +23,7 @@ use Rattle.dma_window.specs.Pages.{is_ram}
 use Rattle.trace_reply.specs.declared.reply.Reply.TheVariants as replies
 use Rattle.entry_model.specs.declared.receipt.Receipt.{Receipt}
 use Rattle.entry_model.specs.Receipt.{is_access, is_decided, is_no_match}
-use Rattle.entry_model.specs.Reply.{reply_of, change_to, change_where, entered_state, is_found}
-use Rattle.hpte_fields.specs.Fields.{protected_word}
+use Rattle.entry_model.specs.Reply.{reply_of}
 use Rattle.entry_model.specs.Trial.{Call, call, IsTrial, Plan, IsReplyOf, plan_of_code}
 use Rattle.entry_model.proofs.Exact.{exact, same}
 use Rattle.frame_grants.specs.declared.grant.Grant.{Grant}
@@ -35,7 +34,7 @@ use Rattle.call_plan.specs.Single.{single_plan, h_remove_plan, h_protect_plan, h
 use Rattle.call_plan.proofs.Tame.{h_bulk_remove_each}
 use Rattle.run_model.specs.StoreContexts.{StoreContext}
 use Rattle.run_model.specs.LineReplies.{put_plan, get_plan, hcall_plan, IsDeviceLine}
-use Rattle.history_check.proofs.Alike.{either_P}
+use Rattle.entry_model.proofs.Replied.{Replied, replied, left, changed, accessed}
 use Rattle.history_check.specs.Replay.{before_each, next_state, ReplayState, after_receipt, IsReplayed}
 
 -- ---- trials
@@ -138,38 +137,18 @@ replayed_before goes (c ∷ cs) a b (r ∷ rs) (s ∷ ss) stops fresh given g h 
 
 -- ---- hypervisor calls
 
-abbrev Undecided : Answer × State → Type 0
-Undecided x = is_decided x.0 ≡ false
-
-where_undecided :
-    (found : Bool) (s : State) (answer : Answer) (next : State)
-    → is_decided answer ≡ false
-    → Undecided (change_where found s answer next)
-where_undecided found s answer next h =
-    either_P found (change_to s answer next) (answers.NotFound, s) Undecided
-    (either_P (s.stamp == 0xFFFFFFFF) (answers.Worn, s)
-    (answer, record next { stamp = s.stamp + 1 }) Undecided refl h) refl
-
 -- Only accesses use a translation.
 others_undecided :
     (s : State) (op : Op) → is_access op ≡ false → is_decided (reply_of s op).0 ≡ false
-others_undecided s (ops.Enter a b) h =
-    either_P s.valid (answers.Taken, s) (change_to s answers.Entered (entered_state a b)) Undecided
-    refl
-    (either_P (s.stamp == 0xFFFFFFFF) (answers.Worn, s)
-    (answers.Entered, record (entered_state a b) { stamp = s.stamp + 1 }) Undecided refl
-    refl)
-others_undecided s (ops.Remove test) h =
-    where_undecided (is_found s test) s answers.Removed (empty_state 0) refl
-others_undecided s (ops.Protect test flags) h =
-    where_undecided (is_found s test) s answers.Protected
-    (record s { dword1 = protected_word s.dword1 flags }) refl
-others_undecided s ops.Read h = refl
-others_undecided s ops.ClearRef h =
-    where_undecided s.valid s answers.Was (record s { referenced = false }) refl
-others_undecided s ops.ClearMod h =
-    where_undecided s.valid s answers.Was (record s { changed = false }) refl
-others_undecided s (ops.Access t b k n w masks) h = cc
+others_undecided s op = at (replied s op) where
+  at :
+      {op : Op} {x : Answer × State}
+      → Replied s op x
+      → is_access op ≡ false
+      → is_decided x.0 ≡ false
+  at (left a is) h = is.undecided h
+  at (changed a next changes is) h = is.undecided
+  at (accessed tag base key no_execute want masks valid) h = cc
 
 -- The calls are no accesses.
 abbrev NoAccess : List Call → Type 0

@@ -48,7 +48,7 @@ section_on o ts = record {
 abbrev pub closing_of : Section → List State
 closing_of s = states_behind s.before s.replied_lines
 
--- Its receipts are legal where it closes on these states.
+-- A section's receipts are legal where it closes on these states.
 pub record IsLegalTo (s : Section) (closing : List State) : Type 0 where
   pub in_table : AllByRecursion (λ (r : Receipt). r.entry < length (states_of s.before)) (made_in s)
   pub legal :
@@ -67,11 +67,11 @@ IsGoodTo s closing =
     × CallsAreReplied s
     × EachLine (IsAccessLine (access_of (context_of s.before)) closing) s
 
--- It is good, and closes on the states that its receipts leave.
+-- A section is good, and closes on the states that its receipts leave.
 abbrev pub IsGoodPart : Section → Type 0
 IsGoodPart s = IsGoodTo s (closing_of s)
 
--- The section of these lines is.
+-- The section of these lines on a store is good, and closes on the states that its receipts leave.
 abbrev pub IsGoodOn : Opening → List RepliedLine → Type 0
 IsGoodOn o ts = IsGoodPart (section_on o ts)
 

@@ -17,7 +17,7 @@ use Rattle.history_check.specs.FoundSection.{lines_text, opening_of, IsGoodOn}
 abbrev pub windows_of : AllStores → List BusWindow
 windows_of s = windows_in s.windows
 
--- Of these lines those on the store of this number.
+-- Those of these lines that are on the store of this number.
 abbrev pub lines_at : AllStores → ℕ → List RepliedLine → List RepliedLine
 lines_at s number ts = lines_on (is_on (windows_of s) (store_at s number).window) ts
 

@@ -30,14 +30,14 @@ abbrev pub IsAccessOn : AccessContext → Processor → Request → AccessReply 
 IsAccessOn context p a r =
     IsAccessReply context (cached_line p.cache) a (segment_of p.slots a.ea) r
 
--- It is a reply of this processor to what a line asks.
+-- A reply of this processor to what a line asks.
 pub record IsReplyTo (context : StoreContext) (p : Processor) (act : Act) (r : Reply) : Type 0
   where
     pub kind : IsOfKind act r
     pub call : IsCallReply context act r
     pub access : IsReplyToAccess (access_of context) p act r
 
--- It is a reply of this processor to what a line asks, by operations that found these states.
+-- A reply of this processor to what a line asks, by operations that found these states.
 pub record IsReplyOn
     (context : StoreContext)
     (p : Processor)
@@ -59,8 +59,8 @@ LineFindsPage p act r = Unit {0}
 abbrev pub IsHitReply : Reply → Type 0
 IsHitReply r = way_of r ≡ Some Hit
 
--- Its receipts are on the states found and have marks, and the text begins with its text, which has
--- n bytes.
+-- A reply's receipts are on the states found and have marks, and the given text begins with the
+-- reply's text, which has n bytes.
 pub record FitsText
     (l : TraceLine)
     (found : List State)

@@ -11,7 +11,7 @@ use Rattle.receipt_text.specs.Receipts.{mark_of}
 abbrev pub marks_in : Reply → List Mark
 marks_in reply = map mark_of (receipts_in reply)
 
--- By what an access found its entry.
+-- By what an access found its entry: a cached line or a walk. Other replies don't say.
 abbrev pub way_of : Reply → Option By
 way_of (replies.Access r) = r.by
 way_of other = None

@@ -77,7 +77,8 @@ pub record LeavesPart
         (store_at s number)
         (lines_with_replies (lines_on_store (windows_of s) number ls) replies)
 
--- So it is on each store with a lower number than this, and the stores from this number on stay.
+-- Each store with a lower number than this has left its part of the lines and of the text, and the
+-- stores from this number on stay.
 pub record FoundBelow
     (s : AllStores)
     (end : ℕ)

@@ -16,9 +16,9 @@ use std::collections::HashMap;
 /// come to in a section.
 #[derive(Drop)]
 pub struct Fronts {
-    /// Those of all entries, or of none where that takes too much room.
+    /// The fronts of all entries, or of none where that takes too much room.
     list: Vec<u64>,
-    /// Where they aren't listed, those of the entries that it has seen.
+    /// Where they aren't listed, the fronts of the entries that the processor has seen.
     kept: HashMap<u32, u64>,
 }
 

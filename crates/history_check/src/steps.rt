@@ -63,7 +63,8 @@ fn act_op(act: &Act, answer: Answer) -> Op
     }
 }
 
-/// The same, and nothing where the stamp was at its last value.
+/// What is kept of each operation of a line that was answered so: a read where the stamp was at its
+/// last value, since nothing changed then.
 fn line_op(act: &Act, answer: Answer) -> Op
     ensures { result ≡ placed_of.line_op act.now answer }
 {

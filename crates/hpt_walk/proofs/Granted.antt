@@ -1,7 +1,6 @@
 -- The page of each valid entry lies in a grant, and no operation changes that but one that enters
 -- words of another page.
-use Rattle.std.specs.Prelude.{if◌then◌else◌, ◌==◌}
-use Rattle.std.proofs.Common.{◌≡◌, ℕ, ◌+◌, ◌^◌, ◌<◌, List, Bool, true, false, Option, Some, ap, sym, subst, arith}
+use Rattle.std.proofs.Common.{◌≡◌, ℕ, ◌+◌, ◌^◌, ◌<◌, List, true, false, Option, Some, ap, sym, subst, arith}
 use Rattle.std.specs.Option.{option_map_or}
 use Rattle.std.proofs.lemmas.Nat.{pow_pos}
 use Rattle.page_sizes.specs.declared.size.PageSize.{PageSize}
@@ -15,11 +14,10 @@ use Rattle.frame_grants.proofs.Landing.{part_range}
 use Rattle.entry_model.specs.State.{State, empty_state}
 use Rattle.entry_model.specs.declared.operation.Answer.{Answer}
 use Rattle.entry_model.specs.declared.operation.Op.{Op}
-use Rattle.entry_model.specs.Reply.{reply_of, change_to, change_where, entered_state, is_found, is_match, answer_of_match, answer_of_allowed, masks_refuse, is_allowed, touched_state, access_mode}
+use Rattle.entry_model.specs.Reply.{reply_of}
 use Rattle.entry_model.proofs.PlanBounds.{EntersOnly}
+use Rattle.entry_model.proofs.Replied.{Changes, enters, removes, protects, clears_r, clears_c, Replied, replied, left, changed, accessed}
 use Rattle.hpt_walk.specs.Access.{actual_size, logical_of}
-use Rattle.entry_model.specs.declared.operation.Answer.TheVariants as answers
-use Rattle.entry_model.specs.declared.operation.Op.TheVariants as ops
 
 -- The range of this size from a frame on lies in one grant.
 abbrev pub IsGrantedPage : List Grant → ℕ → ℕ → Type 0
@@ -61,66 +59,39 @@ same_words grants h l m e granted =
     }
 
 -- ---- operations
-either_granted :
-    (b : Bool) (grants : List Grant) (p q : Answer × State)
-    → IsGranted grants p.1
-    → IsGranted grants q.1
-    → IsGranted grants (if◌then◌else◌ {A = Answer × State} b p q).1
-either_granted true grants p q h k = h
-either_granted false grants p q h k = k
-
-changed_granted :
-    (grants : List Grant) (s : State) (answer : Answer) (next : State)
-    → IsGranted grants s
-    → IsGranted grants next
-    → IsGranted grants (change_to s answer next).1
-changed_granted grants s answer next h k =
-    either_granted (s.stamp == 0xFFFFFFFF) grants (answers.Worn, s)
-    (answer, record next { stamp = s.stamp + 1 }) h k
-
-where_granted :
-    (found : Bool) (grants : List Grant) (s : State) (answer : Answer) (next : State)
-    → IsGranted grants s
-    → IsGranted grants next
-    → IsGranted grants (change_where found s answer next).1
-where_granted found grants s answer next h k =
-    either_granted found grants (change_to s answer next) (answers.NotFound, s)
-    (changed_granted grants s answer next h k) h
-
 pub empty_granted : (grants : List Grant) (stamp : ℕ) → IsGranted grants (empty_state stamp)
 empty_granted grants stamp = λ e. absurd (let never : false ≡ true = e in cc)
+
+changed_granted :
+    (grants : List Grant) (s : State) {op : Op} {a : Answer} {next : State}
+    → Changes s op a next
+    → EntersOnly (IsGrantedWords grants) op
+    → IsGranted grants s
+    → IsGranted grants (record next { stamp = s.stamp + 1 })
+changed_granted grants s (enters dword0 dword1 valid) w h =
+    λ _. same_words grants dword0 dword1 (without_rc dword1) (without_rc_page dword1) w
+changed_granted grants s (removes test valid) w h = empty_granted grants (s.stamp + 1)
+changed_granted grants s (protects test flags valid) w h =
+    λ e.
+    same_words grants s.dword0 s.dword1 (protected_word s.dword1 flags)
+    (protected_page s.dword1 flags) (h e)
+changed_granted grants s (clears_r valid) w h = h
+changed_granted grants s (clears_c valid) w h = h
 
 pub reply_granted :
     (grants : List Grant) (s : State) (op : Op)
     → EntersOnly (IsGrantedWords grants) op
     → IsGranted grants s
     → IsGranted grants (reply_of s op).1
-reply_granted grants s (ops.Enter dword0 dword1) w h =
-    either_granted s.valid grants (answers.Taken, s)
-    (change_to s answers.Entered (entered_state dword0 dword1)) h
-    (changed_granted grants s answers.Entered (entered_state dword0 dword1) h
-    (λ _. same_words grants dword0 dword1 (without_rc dword1) (without_rc_page dword1) w))
-reply_granted grants s (ops.Remove test) w h =
-    where_granted (is_found s test) grants s answers.Removed (empty_state 0) h
-    (empty_granted grants 0)
-reply_granted grants s (ops.Protect test flags) w h =
-    where_granted (is_found s test) grants s answers.Protected
-    (record s { dword1 = protected_word s.dword1 flags }) h
-    (λ e.
-    same_words grants s.dword0 s.dword1 (protected_word s.dword1 flags)
-    (protected_page s.dword1 flags) (h e))
-reply_granted grants s ops.Read w h = h
-reply_granted grants s ops.ClearRef w h =
-    where_granted s.valid grants s answers.Was (record s { referenced = false }) h h
-reply_granted grants s ops.ClearMod w h =
-    where_granted s.valid grants s answers.Was (record s { changed = false }) h h
-reply_granted grants s (ops.Access tag base key no_execute want masks) w h =
-    either_granted (is_match s tag base) grants
-    (answer_of_match s (access_mode key no_execute want masks)) (answers.NoMatch, s)
-    (either_granted (is_allowed s (access_mode key no_execute want masks)) grants
-    (answer_of_allowed s (access_mode key no_execute want masks)) (answers.Denied, s)
-    (either_granted (masks_refuse s (access_mode key no_execute want masks)) grants
-    (answers.Masked, s) (answers.At, touched_state s want) h h) h) h
+reply_granted grants s op w h = at (replied s op) w where
+  at :
+      {op : Op} {x : Answer × State}
+      → Replied s op x
+      → EntersOnly (IsGrantedWords grants) op
+      → IsGranted grants x.1
+  at (left a is) w = h
+  at (changed a next changes is) w = changed_granted grants s changes w h
+  at (accessed tag base key no_execute want masks valid) w = h
 
 -- ---- accesses
 -- An access by a valid entry has a machine address.

@@ -75,7 +75,7 @@ refused_by (Some name) = Masked name
 abbrev pub refusing_mask : Receipt → Option MaskName
 refusing_mask r = if is_masked r.answer then mask_of r else None
 
--- By the receipt that was found.
+-- Where an access ends by the receipt of the entry that it found, if it found one.
 abbrev pub outcome_by : List Grant → ℕ → Option Receipt → Outcome
 outcome_by grants ea None = NoPage
 outcome_by grants ea (Some r) =

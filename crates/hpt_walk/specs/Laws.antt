@@ -45,7 +45,8 @@ pub record TellsPage
     pub decided : IsTrue (is_decided answer) ↔ IsPageOf order entry s.dword0 s.dword1 page
     pub no_match : (answer ≡ NoMatch) ↔ ¬ IsPageOf order entry s.dword0 s.dword1 page
 
--- So does an access of the page by an entry of the page's group for the access's H.
+-- The answer to an access of a page tells whether an entry is one of it, for each entry of the
+-- page's group for the access's H.
 abbrev pub AccessTellsPage : Type 0
 AccessTellsPage =
     (order entry : ℕ) (page : VirtualPage) (mode : AccessMode) (secondary : Bool) (s : State)
@@ -99,7 +100,8 @@ WalksUseTheirPage =
     → IsTrial is_no_match (walk_calls order page mode) rs
     → AllByRecursion (λ (r : Receipt). IsTrue (is_decided r.answer) → WasOfPage order page r) rs
 
--- So did a hit, by a line of the page whose entry stands in the page's group.
+-- A hit by a line of the page, whose entry stands in the page's group, used the translation of an
+-- entry of the page.
 abbrev pub HitsUseTheirPage : Type 0
 HitsUseTheirPage =
     (context : AccessContext) (seg : Segment) (a : Request) (line : Line) (reply : AccessReply)

@@ -4,6 +4,6 @@ use Rattle.entry_model.specs.Trial.{Call}
 use Rattle.hpt_walk.specs.Walk.{group_calls}
 use Rattle.hpt_walk.specs.declared.page_calls.PageCalls.{PageCalls}
 
--- Those on the primary group, then those on the secondary one.
+-- The calls of a walk: those on the primary group, then those on the secondary one.
 abbrev pub calls_of : PageCalls → List Call
 calls_of p = group_calls p.early p.primary ++ group_calls p.late p.secondary

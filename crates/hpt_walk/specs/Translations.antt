@@ -24,13 +24,13 @@ abbrev pub put_first : ℕ → Option VirtualPage → List Translation → List 
 put_first entry None rest = rest
 put_first entry (Some page) rest = record { page = page; entry = entry } ∷ rest
 
--- Those of the entries from one on, in rising index.
+-- The translations of the entries from an index on, in rising index.
 abbrev pub translations_from : ℕ → ℕ → List State → List Translation
 translations_from order entry [] = []
 translations_from order entry (s ∷ ss) =
     put_first entry (page_in order entry s) (translations_from order (entry + 1) ss)
 
--- Those of a table of 2 ^ order bytes.
+-- The translations of a table of 2 ^ order bytes.
 unfoldable pub translations : ℕ → List State → List Translation
 translations order states = translations_from order 0 states
 

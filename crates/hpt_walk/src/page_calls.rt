@@ -37,8 +37,8 @@ impl PageCalls {
     ghost use Rattle.hpt_walk.specs.Walk.{walk_calls};
     ghost use Rattle.hpt_walk.specs.PageCalls.{calls_of};
 
-    /// Those of an access of the page on a table of `2^order` bytes. `key` is the segment's key for
-    /// the state of the processor, `no_execute` says whether the segment refuses instruction
+    /// The calls of an access of the page on a table of `2^order` bytes. `key` is the segment's key
+    /// for the state of the processor, `no_execute` says whether the segment refuses instruction
     /// fetches, and `masks` are the processor's.
     #[inline(always)]
     #[tactic(auto, unfolding(crate::specs::Walk::walk_calls))]

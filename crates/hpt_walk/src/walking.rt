@@ -55,8 +55,9 @@ pub fn walk<T: EntryStore>(
     WalkAnswer { found, receipts }
 }
 
-/// The same walk, whose receipts take the place of what is in `receipts`. Gives back the receipt of
-/// the entry that translates the page: the last one, which says At, Masked or Denied.
+/// Makes the walk that `walk` makes, with its receipts in place of what is in `receipts`. Gives
+/// back the receipt of the entry that translates the page: the last one, which says At, Masked or
+/// Denied.
 #[tactic(auto, unfolding(crate::specs::Walk::walk_calls))]
 pub fn walk_into<T: EntryStore>(
     store: &mut T,

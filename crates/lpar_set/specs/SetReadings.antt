@@ -29,7 +29,7 @@ reading_at r number = slice_index_or r.readings number None
 abbrev pub order_of : SetReading → ℕ → ℕ
 order_of r number = (reading_of r number).config.order
 
--- Those of the partitions whose `begin` has come, in that order.
+-- The orders of the opening tables of the partitions whose `begin` has come, in that order.
 abbrev pub orders_begun : SetReading → List ℕ
 orders_begun r = map (order_of r) r.begun
 

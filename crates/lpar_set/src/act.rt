@@ -47,7 +47,7 @@ pub fn run_act(
     apply_act(table, cpu, grants, act, slot);
 }
 
-/// The same, by what the calls and accesses themselves tell of their replies.
+/// Runs a line by what the calls and accesses themselves tell of their replies.
 fn apply_act(
     table: &mut PlainTable,
     cpu: &mut Cpu,

@@ -1,65 +1,44 @@
 -- What a call that isn't stale leaves of valid entries.
-use Rattle.std.specs.Prelude.{◌==◌, if◌then◌else◌}
 use Rattle.std.proofs.Common.{◌≡◌, ℕ, ◌<◌, ◌≤◌, List, [], ◌∷◌, length, Bool, true, false, refl, ap, sym, subst, ◌∙◌, ◌⊎◌, inl, inr}
-use Rattle.std.proofs.lemmas.Bool.{cases_Bool, cases_eq, cases_lt, or_parts}
+use Rattle.std.proofs.lemmas.Bool.{cases_Bool, cases_eq, cases_lt, false≢true, or_parts}
 use Rattle.std.proofs.lemmas.List.{get_or-set_same, get_or-set_other, get_or_past}
-use Rattle.hpte_fields.specs.Fields.{protected_word}
 use Rattle.entry_model.specs.State.{State, OnlyRaisesBits, empty_state}
 use Rattle.entry_model.specs.declared.operation.Answer.{Answer}
-use Rattle.entry_model.specs.declared.operation.Answer.TheVariants.{Entered, Taken, Removed, Protected, Was}
 use Rattle.entry_model.specs.declared.operation.Op.{Op}
-use Rattle.entry_model.specs.declared.operation.Op.TheVariants.{Enter, Remove, Protect, Read, ClearRef, ClearMod, Access}
 use Rattle.entry_model.specs.declared.receipt.Receipt.{Receipt}
 use Rattle.entry_model.specs.Receipt.{after_of}
-use Rattle.entry_model.specs.Reply.{reply_of, change_to, change_where, entered_state, is_found}
+use Rattle.entry_model.specs.Reply.{reply_of}
 use Rattle.entry_model.specs.Run.{state_at, states_after}
 use Rattle.entry_model.specs.Trial.{Plan, Call, receipt_at, plan_run, trial_run}
-use Rattle.entry_model.proofs.Follows.{no_further, further_on}
-use Rattle.entry_model.proofs.OperationLaws.{access_further}
+use Rattle.entry_model.proofs.Follows.{no_further, further_on, touched_further}
+use Rattle.entry_model.proofs.Replied.{Changes, enters, removes, protects, clears_r, clears_c, Replied, replied, left, changed, accessed}
 use Rattle.c_layout.specs.Stale.{is_stale, any_stale}
 use Rattle.papr_c.proofs.SoFar.{step_on, step_off, no_more}
 
 -- ---- one entry
--- A change that would be stale isn't made.
-change_stays :
-    (found : Bool) (s : State) (answer : Answer) (next : State)
-    → is_stale answer ≡ true
-    → is_stale (change_where found s answer next).0 ≡ false
-    → OnlyRaisesBits s (change_where found s answer next).1
-change_stays false s answer next stale fresh = no_further s
-change_stays true s answer next stale fresh = at (cases_Bool (s.stamp == 0xFFFFFFFF)) where
-  at :
-      ((s.stamp == 0xFFFFFFFF) ≡ true) ⊎ ((s.stamp == 0xFFFFFFFF) ≡ false)
-      → OnlyRaisesBits s (change_where true s answer next).1
-  at (inl worn) = rw worn (no_further s)
-  at (inr fit) = let clash :
-      is_stale answer ≡ false = rw fit at fresh in let e : true ≡ false = sym stale ∙ clash in cc
-
-taken_stays :
-    (valid : Bool) (s : State) (other : Answer × State)
-    → valid ≡ true
-    → OnlyRaisesBits s (if◌then◌else◌ {A = Answer × State} valid (Taken, s) other).1
-taken_stays true s other e = no_further s
-taken_stays false s other e = cc
+-- A change of a valid entry is stale.
+change_stale :
+    (s : State) {op : Op} {a : Answer} {next : State}
+    → Changes s op a next
+    → s.valid ≡ true
+    → is_stale a ≡ true
+change_stale s (enters dword0 dword1 empty) valid = absurd (false≢true (sym empty ∙ valid))
+change_stale s (removes test valid) h = refl
+change_stale s (protects test flags valid) h = refl
+change_stale s (clears_r valid) h = refl
+change_stale s (clears_c valid) h = refl
 
 kept :
     (s : State) (op : Op)
     → s.valid ≡ true
     → is_stale (reply_of s op).0 ≡ false
     → OnlyRaisesBits s (reply_of s op).1
-kept s (Enter dword0 dword1) valid fresh =
-    taken_stays s.valid s (change_to s Entered (entered_state dword0 dword1)) valid
-kept s (Remove test) valid fresh =
-    change_stays (is_found s test) s Removed (empty_state 0) refl fresh
-kept s (Protect test flags) valid fresh =
-    change_stays (is_found s test) s Protected (record s { dword1 = protected_word s.dword1 flags })
-    refl fresh
-kept s Read valid fresh = no_further s
-kept s ClearRef valid fresh =
-    change_stays s.valid s Was (record s { referenced = false }) refl fresh
-kept s ClearMod valid fresh = change_stays s.valid s Was (record s { changed = false }) refl fresh
-kept s (Access tag base key no_execute want masks) valid fresh =
-    access_further s (Access tag base key no_execute want masks) refl
+kept s op valid = at (replied s op) where
+  at : {op : Op} {x : Answer × State} → Replied s op x → is_stale x.0 ≡ false → OnlyRaisesBits s x.1
+  at (left a is) fresh = no_further s
+  at (changed a next changes is) fresh =
+      absurd (false≢true (sym fresh ∙ change_stale s changes valid))
+  at (accessed tag base key no_execute want masks on) fresh = touched_further s want
 
 -- ---- one call, of a list of entries
 step_kept :

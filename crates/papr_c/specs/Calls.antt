@@ -30,7 +30,7 @@ memory_with m reply entries =
     (filled m.words reply.words)
     (filled m.receipts (map shown_receipt reply.receipts))
 
--- By a reply and the entries after it.
+-- What C is told by a call's reply, and the memory with the entries after the call.
 abbrev pub outcome_by : LentMemory → HReply × List State → PaprReply × LentMemory
 outcome_by m run = (reply_told run.0 m.words m.receipts, memory_with m run.0 run.1)
 

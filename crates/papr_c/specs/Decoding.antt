@@ -90,7 +90,7 @@ fields_said dword0 dword1 why = record (nothing_said why) {
   changed = is_changed dword1;
 }
 
--- With both sizes and the real page, where a size is encoded.
+-- What is said of a page, with both sizes and the real page where a size is encoded.
 abbrev pub with_size : ℕ → PaprPage → Option PageSize → PaprPage
 with_size dword1 said None = said
 with_size dword1 said (Some size) = record said {
@@ -99,12 +99,12 @@ with_size dword1 said (Some size) = record said {
   actual_shift = size.actual;
 }
 
--- With the page, where there is one.
+-- What is said of a page, with the virtual page where there is one.
 abbrev pub with_page : PaprPage → Option VirtualPage → PaprPage
 with_page said None = said
 with_page said (Some p) = record said { vsid = p.vsid; page = p.index; one_tb = p.one_tb }
 
--- The page, where the index is in range.
+-- The virtual page of an entry, where its index is in range.
 abbrev pub page_here : ℕ → ℕ → ℕ → ℕ → Option VirtualPage
 page_here order ptex dword0 dword1 =
     if is_index order ptex then page_at order ptex dword0 dword1 else None

@@ -13,7 +13,7 @@ use Rattle.papr_c.specs.Calls.{LentMemory, outcome_of_call}
 abbrev pub function_reply : PaprReply
 function_reply = record { rc = rc_code Function; words = 0; receipts = 0; stale = false }
 
--- By the plan: its outcome, or H_FUNCTION, and nothing changes.
+-- The outcome of a call by its plan. Without a plan it answers H_FUNCTION, and nothing changes.
 abbrev pub outcome_by_plan : ℕ → LentMemory → Option Plan → PaprReply × LentMemory
 outcome_by_plan order m None = (function_reply, m)
 outcome_by_plan order m (Some plan) = outcome_of_call order plan m

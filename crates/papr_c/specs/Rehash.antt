@@ -46,7 +46,7 @@ abbrev pub table_after : Option Collision → ℕ → ℕ → List State → Lis
 table_after None from to entries = rehashed_states from to entries
 table_after (Some c) from to entries = replicate (entry_count to) (empty_state 0)
 
--- Both are tables; otherwise the answer is H_PARAMETER, and nothing changes.
+-- A rehash where both are tables; otherwise the answer is H_PARAMETER, and nothing changes.
 abbrev pub outcome_of_rehash : ℕ → List State → ℕ → List State → PaprRehash × List State
 outcome_of_rehash from entries to into =
     if is_table from entries && is_table to into
@@ -61,7 +61,8 @@ outcome_of_rehash from entries to into =
 abbrev pub emptied_entries : List Entry → List Entry
 emptied_entries entries = map (λ (e : Entry). entry_with e (empty_state 0)) entries
 
--- The same of those from one index on up to another one; the others are as they were.
+-- The entries, of which those from one index up to another are emptied; the others are as they
+-- were.
 abbrev pub emptied_between : ℕ → ℕ → List Entry → List Entry
 emptied_between first end entries =
     let rest = drop first entries in

@@ -121,7 +121,8 @@ entries_where None order entries shift into =
     then entries_after (collision_of order shift entries) order shift entries into
     else into
 
--- So for a current table of 2 ^ order bytes: marked as by a rehash.
+-- The entries of the new table's memory after a commit of a current table of 2 ^ order bytes,
+-- marked as by a rehash.
 abbrev pub committed_entries :
     ℕ → List State → ℕ → ℕ → PaprResize → List Entry → List Entry
 committed_entries order entries flags shift resize into =

@@ -33,8 +33,8 @@ abbrev pub walk_run :
 walk_run order a page want entries =
     trial_run is_no_match entries (walk_calls order page (mode_of a want))
 
--- By the receipts, and the entries after them: the words and the rights are those of the entry as
--- the walk left it.
+-- What C is told by a walk's receipts and the entries after them: the words and the rights are
+-- those of the entry as the walk left it.
 abbrev pub walked_by :
     PaprAccess → Want → WalkMemory → List Receipt × List State → PaprWalk × WalkMemory
 walked_by a want m run = (
@@ -42,7 +42,8 @@ walked_by a want m run = (
   walk_memory run.1 (filled m.receipts (map shown_receipt run.0)),
 )
 
--- Where there is a page and a kind of access.
+-- The outcome of a walk of the page by this kind of access; without either it is refused, and
+-- nothing changes.
 abbrev pub walk_where :
     Option VirtualPage → Option Want → ℕ → PaprAccess → WalkMemory → PaprWalk × WalkMemory
 walk_where (Some page) (Some want) order a m =
@@ -69,7 +70,7 @@ probe_where (Some page) (Some want) order a entries =
     walk_end (λ r. r.before) a want found 0
 probe_where page want order a entries = refused_walk
 
--- Of the same arguments as a walk.
+-- The outcome of a probe, which has the arguments of a walk.
 abbrev pub outcome_of_probe : ℕ → PaprAccess → List State → PaprWalk
 outcome_of_probe order a entries =
     if is_table order entries

@@ -166,7 +166,8 @@ pub fn try_lent<C: CallList>(
     }
 }
 
-/// The same, eight calls by eight: the compiler then knows the group of each call of a walk.
+/// Makes the calls of `try_lent`, eight by eight: the compiler then knows the group of each call of
+/// a walk.
 #[inline(always)]
 pub fn try_by_groups<C: CallList>(
     entries: &mut [PaprEntry],

@@ -81,7 +81,8 @@ pub record Stops
     pub output : IsOutput says (reads bytes) text
     pub written : WritesPrefix run text
 
--- By the status. Want of memory and a fault of the source leave nothing written.
+-- What a command that reads left, by its status. Want of memory and a fault of the source leave
+-- nothing written.
 abbrev pub EndsReading :
     {A : Type 0}
     → (List ℕ → Result A (ℕ × Reason))
@@ -97,8 +98,8 @@ EndsReading reads says run WriteFault = Stops reads says run
 EndsReading reads says run Memory = Writes run []
 EndsReading reads says run Usage = ⊥
 
--- The same; but for an input that is taken too the status may be Refused, and then a text that may
--- be written with it was.
+-- What a command left that may also refuse an input that was read: with Refused a text that may be
+-- written with it was written. With each other status it left what a command that reads does.
 abbrev pub EndsAnswered :
     {A : Type 0}
     → (List ℕ → Result A (ℕ × Reason))

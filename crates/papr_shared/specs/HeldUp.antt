@@ -28,7 +28,7 @@ busy_by Nothing b rs = not_held_up
 busy_by (Call call) b rs = busy_at b rs 1
 busy_by (Walk walk) b rs = busy_at b rs 2
 
--- Of a pass as C has it.
+-- What holds a pass up, as C is told; a closed pass isn't held up.
 abbrev pub busy_of : Option Working → PaprBusy
 busy_of None = not_held_up
 busy_of (Some w) = busy_by w.pending w.busy w.receipts
@@ -39,7 +39,7 @@ pub record GivesUp (x y : Working) : Type 0 where
   pub receipts : y.receipts ≡ x.receipts
   pub nothing : y.pending ≡ Nothing
 
--- A closed one stays closed.
+-- An open pass gives up what it had to go on with, and a closed one stays closed.
 abbrev pub IsGivenUp : Option Working → Option Working → Type 0
 IsGivenUp (Some x) (Some y) = GivesUp x y
 IsGivenUp None None = Unit {0}

@@ -65,7 +65,8 @@ pub record IsSplitInto (x : Working) (t : TwoAfter) : Type 0 where
   pub code_is : t.code ≡ rc_code Success
   pub split_off : IsSplitOff x left right
 
--- With two shares it is, or there was no memory. With one, H_RESOURCE.
+-- A pass of two shares or more is split, or there was no memory. With one share the answer is
+-- H_RESOURCE.
 abbrev pub SplitsBy : Bool → Working → TwoAfter → Type 0
 SplitsBy two x t =
     MatchBool
@@ -73,7 +74,8 @@ SplitsBy two x t =
     (IsSplitInto x t ⊎ IsKept (Some x) None NoMem t)
     (IsKept (Some x) None Resource t)
 
--- H_PARAMETER where the pass is closed, or the other isn't.
+-- An open pass is split, and the closed one becomes its other half. Where the first is closed, or
+-- the other open, the answer is H_PARAMETER.
 abbrev pub IsSplitting : Option Working → Option Working → TwoAfter → Type 0
 IsSplitting (Some x) None t = SplitsBy (nat_le 2 x.sharer.pass.shares) x t
 IsSplitting pass other t = IsKept pass other Parameter t
@@ -92,12 +94,12 @@ pub record IsJoinedInto (x y : Working) (t : TwoAfter) : Type 0 where
   pub code_is : t.code ≡ rc_code Success
   pub taken_in : IsTakenIn x y both
 
--- Where both have nothing to go on with; otherwise H_BUSY.
+-- Two passes are joined where both have nothing to go on with. Otherwise the answer is H_BUSY.
 abbrev pub JoinsBy : Bool → Working → Working → TwoAfter → Type 0
 JoinsBy free x y t =
     MatchBool free (IsJoinedInto x y t) (IsKept (Some x) (Some y) Busy t)
 
--- H_PARAMETER where one of them is closed.
+-- Two open passes are joined. Where one of them is closed, the answer is H_PARAMETER.
 abbrev pub IsJoining : Option Working → Option Working → TwoAfter → Type 0
 IsJoining (Some x) (Some y) t = JoinsBy (is_free x && is_free y) x y t
 IsJoining pass other t = IsKept pass other Parameter t
@@ -140,12 +142,14 @@ close_refusal count x =
     then (if has_all_shares x then (if is_free x then None else Some Busy) else Some Resource)
     else Some Parameter
 
--- By it. With none the table is closed; or it has an owner still that is no pass.
+-- What a closing does by the reason against it. With none the table is closed, or it still has an
+-- owner that is no pass and the answer is H_RESOURCE.
 abbrev pub ClosesBy : Option Rc → Working → ClosedAfter → Type 0
 ClosesBy (Some rc) x t = IsStillOpen (Some x) rc t
 ClosesBy None x t = IsClosedNow x t ⊎ IsStillOpen (Some x) Resource t
 
--- A closed pass: H_PARAMETER.
+-- An open pass is closed, unless something is against it. For a closed one the answer is
+-- H_PARAMETER.
 abbrev pub IsClosing : Option Working → ClosedAfter → Type 0
 IsClosing None t = IsStillOpen None Parameter t
 IsClosing (Some x) t = ClosesBy (close_refusal (length t.entries) x) x t

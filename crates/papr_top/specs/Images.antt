@@ -42,8 +42,8 @@ IsImage layout t Refused text =
     (index : ℕ) × (image_output layout t ≡ Err index) × (text ≡ layout_refusal_text index)
 IsImage layout t other text = ⊥
 
--- As a command that reads ends; but for an accepted trace too the answer may be Refused, and then
--- the line of the entry was written.
+-- `image` ends as a command that reads. It may also refuse an accepted trace: then the line of the
+-- entry that the layout can't hold was written.
 abbrev pub EndsImage : Layout → Run → Status → Type 0
 EndsImage layout run Refused =
     Refuses trace_input run ⊎ Answers trace_input (λ t. IsImage layout t Refused) run

@@ -18,8 +18,8 @@ use Rattle.papr_top.specs.Sets.{set_input, IsSetText}
 abbrev pub usage_text : List ℕ
 usage_text = codes "papr: usage\n"
 
--- Of a drill's trace, from which no byte is read: the summary was written whole, or a prefix of it,
--- or nothing for want of memory.
+-- What `drill` left of this trace, for which no byte is read: the summary was written whole, or a
+-- prefix of it, or nothing for want of memory.
 abbrev pub EndsDrill : AcceptedTrace → Run → Status → Type 0
 EndsDrill t run Done =
     ReadsNothing run × IsSerialAssured t × Writes run (drill_text t)
@@ -27,8 +27,8 @@ EndsDrill t run WriteFault = ReadsNothing run × WritesPrefix run (drill_text t)
 EndsDrill t run Memory = ReadsNothing run × Writes run []
 EndsDrill t run other = ⊥
 
--- Of words that are none of the listed forms: the usage line was written, or a prefix of it, and no
--- byte was read.
+-- What words that are no command left: the usage line was written, or a prefix of it, and no byte
+-- was read.
 abbrev pub EndsUsage : Run → Status → Type 0
 EndsUsage run Usage = ReadsNothing run × Writes run usage_text
 EndsUsage run WriteFault = ReadsNothing run × WritesPrefix run usage_text

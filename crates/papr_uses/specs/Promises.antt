@@ -40,16 +40,16 @@ pub record PutsReplies (promise : Promise) (bytes : List ℕ) (old new : Option 
   pub kept : promise trace replies
 
 -- ---- what the program's clause says
--- Of replies that it writes under `par`.
+-- The clause on the replies that the program writes under `par`.
 pub record IsOfThreads (t : AcceptedTrace) (rs : List Reply) : Type 0 where
   pub assured : IsAssured t rs
   pub one : (cpu : ℕ) → HasOneProcessor cpu t.lines → rs ≡ serial_replies t
 
--- It is kept by the replies that the program writes under `par`.
+-- The promise is kept by the replies that the program writes under `par`.
 abbrev pub Follows : Promise → Type 0
 Follows promise = (t : AcceptedTrace) (rs : List Reply) → IsOfThreads t rs → promise t rs
 
--- Of those that it writes under `run`.
+-- The clause on the replies that the program writes under `run`.
 pub record IsOfOneThread (t : AcceptedTrace) (rs : List Reply) : Type 0 where
   pub serial : rs ≡ serial_replies t
   pub assured : IsSerialAssured t

@@ -43,7 +43,7 @@ pub record IsOpeningTable (order : ℕ) (entries : List ImageEntry) (table : Tab
       → AllByRecursion (λ (e : ImageEntry). index ≢ e.index) entries
       → state_at table.states index ≡ empty_state 0
 
--- So does each partition open, on entries that may lie in its table.
+-- Each partition opens with such a table, where its entries may lie in it.
 abbrev pub OpensWithEntries : Type 0
 OpensWithEntries =
     (config : Configuration)
@@ -57,7 +57,8 @@ pub record CanBeOpened (grants : List Grant) (s : State) : Type 0 where
   pub stored : entered_words grants (words_of s).0 (words_of s).1 ≡ Some (words_of s)
   pub state : entered_state (words_of s).0 (words_of s).1 ≡ at_stamp_0 s
 
--- So are those of each valid entry whose doublewords without R and C are such words.
+-- A valid entry whose doublewords without R and C are words that H_ENTER stores can be opened
+-- again.
 abbrev pub OpensAgain : Type 0
 OpensAgain =
     (grants : List Grant) (s : State)
@@ -96,7 +97,7 @@ pub record PairsCarriedPages (old new : Table) : Type 0 where
       → IsSource old new.order page target
       → target < length new.states
 
--- So does each commit that succeeds, on entries as tables have them.
+-- Each commit that succeeds, on entries as tables have them, pairs the carried pages.
 abbrev pub CommitPairsCarriedPages : Type 0
 CommitPairsCarriedPages =
     (memory : TableMemory) (flags shift : ℕ)

@@ -84,7 +84,7 @@ outcome_text outcomes.NoPage = codes " nopage"
 outcome_text outcomes.NoSegment = codes " nosegment"
 outcome_text (outcomes.Ungranted address) = codes " ungranted " ++ hex address
 
--- By what it ended: by a cached line, or by a walk.
+-- The word for what an access ended by: a cached line or a walk.
 abbrev pub way_text : Option By → List ℕ
 way_text (Some ways.Hit) = codes " hit"
 way_text (Some ways.Walk) = codes " walk"

@@ -165,7 +165,7 @@ fn put_outcome(out: &mut String, outcome: Outcome) -> Result<(), AllocError>
     }
 }
 
-/// By what an access ended.
+/// The word for what an access ended by, a cached line or a walk, with a space before it.
 fn way(by: Option<By>) -> &'static str
     ensures value { result.now ≡ way_text by }
     ensures short { length result.now ≤ 5 }

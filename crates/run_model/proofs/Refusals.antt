@@ -8,7 +8,6 @@ use Rattle.std.proofs.lemmas.Bool.{cases_Bool, cond_both, false≢true}
 use Rattle.papr_codes.specs.declared.calls.Hcall.{Hcall}
 use Rattle.papr_codes.specs.declared.codes.Rc.{Rc}
 use Rattle.hpte_fields.specs.TableSize.{entry_count}
-use Rattle.hpte_fields.specs.Fields.{protected_word}
 use Rattle.frame_grants.specs.declared.grant.Grant.{Grant}
 use Rattle.bus_window.specs.Windows.{BusWindow, entry_at}
 use Rattle.dma_window.specs.Calls.{code_of as code_of_answer, code_by_last, clear_plan, replace_plan, put_plan_at, get_plan_at, put_tce_plan, get_tce_plan}
@@ -20,10 +19,9 @@ use Rattle.entry_model.specs.declared.operation.Op.{Op}
 use Rattle.entry_model.specs.declared.operation.Test.{Test}
 use Rattle.entry_model.specs.declared.receipt.Receipt.{Receipt}
 use Rattle.entry_model.specs.declared.hreply.HReply.{HReply}
-use Rattle.entry_model.specs.Receipt.{after_of, is_at, is_taken, is_worn}
-use Rattle.entry_model.specs.Reply.{reply_of, change_to, change_where, entered_state, is_found, no_test}
+use Rattle.entry_model.specs.Receipt.{after_of, is_taken, is_worn}
+use Rattle.entry_model.specs.Reply.{reply_of, change_to, is_found, no_test}
 use Rattle.entry_model.specs.Trial.{Call, IsTrial, Plan, IsReplyOf, plan_of_code, call}
-use Rattle.entry_model.proofs.OperationLaws.{access_undone}
 use Rattle.page_grants.specs.Suited.{entered_words}
 use Rattle.call_plan.specs.Checks.{h_enter_plan, words_plan}
 use Rattle.call_plan.specs.Enter.{candidates, enter_plan, enter_told, told_by_ending}
@@ -41,6 +39,8 @@ use Rattle.entry_model.specs.declared.operation.Answer.TheVariants as answers
 use Rattle.entry_model.specs.declared.operation.Op.TheVariants as ops
 use Rattle.basics.proofs.Bools.{no_more}
 use Rattle.entry_model.proofs.Trials.{not_worn}
+use Rattle.entry_model.proofs.Replied.{Replied, replied, left, changed, accessed}
+use Rattle.entry_model.specs.Receipt as receipts
 
 -- ---- answers without a change
 -- The answers that come with a change.
@@ -52,48 +52,20 @@ is_change answers.Was = true
 is_change answers.At = true
 is_change other = false
 
--- The state stands, where this test is false of the answer.
-abbrev StandsUnless : (Answer → Bool) → State → Answer × State → Type 0
-StandsUnless test s p = test p.0 ≡ false → p.1 ≡ s
+changes_tell : (a : Answer) → receipts.is_change a ≡ true → is_change a ≡ true
+changes_tell answers.Entered e = refl
+changes_tell answers.Removed e = refl
+changes_tell answers.Protected e = refl
+changes_tell answers.Was e = refl
+changes_tell other e = cc
 
-changed_stands :
-    (test : Answer → Bool) (s : State) (answer : Answer) (next : State)
-    → test answer ≡ true
-    → StandsUnless test s (change_to s answer next)
-changed_stands test s answer next is =
-    cond_both (s.stamp == 0xFFFFFFFF) (answers.Worn, s)
-    (answer, record next { stamp = s.stamp + 1 }) (StandsUnless test s) (λ _ _. refl)
-    (λ _ off. absurd (false≢true (sym off ∙ is)))
-
-where_stands :
-    (test : Answer → Bool) (found : Bool) (s : State) (answer : Answer) (next : State)
-    → test answer ≡ true
-    → StandsUnless test s (change_where found s answer next)
-where_stands test found s answer next is =
-    cond_both found (change_to s answer next) (answers.NotFound, s) (StandsUnless test s)
-    (λ _. changed_stands test s answer next is) (λ _ _. refl)
-
-not_at : (answer : Answer) → is_change answer ≡ false → is_at answer ≡ false
-not_at answers.At off = cc
-not_at other off = refl
-
-reply_stands : (s : State) (op : Op) → StandsUnless is_change s (reply_of s op)
-reply_stands s (ops.Enter dword0 dword1) =
-    cond_both s.valid (answers.Taken, s) (change_to s answers.Entered (entered_state dword0 dword1))
-    (StandsUnless is_change s) (λ _ _. refl)
-    (λ _. changed_stands is_change s answers.Entered (entered_state dword0 dword1) refl)
-reply_stands s (ops.Remove test) =
-    where_stands is_change (is_found s test) s answers.Removed (empty_state 0) refl
-reply_stands s (ops.Protect test flags) =
-    where_stands is_change (is_found s test) s answers.Protected
-    (record s { dword1 = protected_word s.dword1 flags }) refl
-reply_stands s ops.Read = λ _. refl
-reply_stands s ops.ClearRef =
-    where_stands is_change s.valid s answers.Was (record s { referenced = false }) refl
-reply_stands s ops.ClearMod =
-    where_stands is_change s.valid s answers.Was (record s { changed = false }) refl
-reply_stands s (ops.Access tag base key no_execute want masks) =
-    λ off. access_undone s (ops.Access tag base key no_execute want masks) refl (not_at _ off)
+-- The state stands, where the answer comes without a change.
+reply_stands : (s : State) (op : Op) → is_change (reply_of s op).0 ≡ false → (reply_of s op).1 ≡ s
+reply_stands s op = at (replied s op) where
+  at : {op : Op} {x : Answer × State} → Replied s op x → is_change x.0 ≡ false → x.1 ≡ s
+  at (left a is) off = refl
+  at (changed a next changes is) off = absurd (false≢true (sym off ∙ changes_tell a is.change))
+  at (accessed tag base key no_execute want masks valid) off = absurd (false≢true (sym off))
 
 -- ---- receipts
 -- The receipt came without a change.
@@ -243,13 +215,23 @@ refused_keeps code (inl success) refused = let no :
 refused_keeps code (inr (inl parameter)) refused = ap (keeps_removals calls.BulkRemove) parameter
 refused_keeps code (inr (inr hardware)) refused = ap (keeps_removals calls.BulkRemove) hardware
 
+removal_stands :
+    (s : State) (test : Test)
+    → is_removed (reply_of s (ops.Remove test)).0 ≡ false
+    → (reply_of s (ops.Remove test)).1 ≡ s
+removal_stands s test =
+    let Stands : Answer × State → Type 0 = λ x. is_removed x.0 ≡ false → x.1 ≡ s in
+    cond_both (is_found s test) (change_to s answers.Removed (empty_state 0)) (answers.NotFound, s)
+    Stands
+    (λ _.
+    cond_both (s.stamp == 0xFFFFFFFF) (answers.Worn, s) (answers.Removed, empty_state (s.stamp + 1))
+    Stands (λ _ _. refl) (λ _ off. absurd (false≢true (sym off))))
+    (λ _ _. refl)
+
 removed_leaves : (r : Receipt) (test : Test) → r.op ≡ ops.Remove test → LeavesEntry true r
 removed_leaves r test removal = λ off.
-    let stands : StandsUnless is_removed r.before (reply_of r.before (ops.Remove test)) =
-    where_stands is_removed (is_found r.before test) r.before answers.Removed (empty_state 0)
-    refl in
-    (subst (λ op. StandsUnless is_removed r.before (reply_of r.before op)) (sym removal) stands)
-    (ap is_removed (sym r.lawful) ∙ off)
+    subst (λ op. is_removed (reply_of r.before op).0 ≡ false → (reply_of r.before op).1 ≡ r.before)
+    (sym removal) (removal_stands r.before test) (ap is_removed (sym r.lawful) ∙ off)
 
 bulk_leaves :
     (order : ℕ) (args : List ℕ) (reply : HReply)

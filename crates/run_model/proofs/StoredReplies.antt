@@ -1,7 +1,6 @@
 -- Each valid entry has words that H_ENTER would store as they are, and no operation changes that
 -- but one that enters other words.
-use Rattle.std.specs.Prelude.{if◌then◌else◌, ◌==◌}
-use Rattle.std.proofs.Common.{◌≡◌, ℕ, ◌+◌, ◌*◌, ◌^◌, ◌<◌, List, Bool, true, false, bit_and, bit_or, ap, sym, ◌∙◌, refl, lit<, arith}
+use Rattle.std.proofs.Common.{◌≡◌, ℕ, ◌+◌, ◌*◌, ◌^◌, ◌<◌, List, true, false, bit_and, bit_or, ap, sym, ◌∙◌, refl, lit<, arith}
 use Rattle.std.specs.Int.Bits.{and_zero_l, and_zero_r, or_zero_r}
 use Rattle.std.proofs.lemmas.Nat.{and_block}
 use Rattle.hpte_fields.specs.Fields.{protected_word, without_rc, stored_second}
@@ -12,10 +11,9 @@ use Rattle.trace_read.proofs.StoredWords.{AreStored, same_stored}
 use Rattle.entry_model.specs.State.{State, empty_state}
 use Rattle.entry_model.specs.declared.operation.Answer.{Answer}
 use Rattle.entry_model.specs.declared.operation.Op.{Op}
-use Rattle.entry_model.specs.Reply.{reply_of, change_to, change_where, entered_state, is_found, is_match, answer_of_match, answer_of_allowed, masks_refuse, is_allowed, touched_state, access_mode}
+use Rattle.entry_model.specs.Reply.{reply_of, entered_state}
 use Rattle.entry_model.proofs.PlanBounds.{EntersOnly}
-use Rattle.entry_model.specs.declared.operation.Answer.TheVariants as answers
-use Rattle.entry_model.specs.declared.operation.Op.TheVariants as ops
+use Rattle.entry_model.proofs.Replied.{Changes, enters, removes, protects, clears_r, clears_c, Replied, replied, left, changed, accessed}
 
 -- ---- the bits of doubleword 1 that H_PROTECT replaces
 -- What is shifted to bits of a mask, which has them all.
@@ -118,32 +116,6 @@ protected_stored grants h l flags is =
 abbrev pub HasStored : List Grant → State → Type 0
 HasStored grants s = s.valid ≡ true → AreStored grants s.dword0 s.dword1
 
-either_stored :
-    (b : Bool) (grants : List Grant) (p q : Answer × State)
-    → HasStored grants p.1
-    → HasStored grants q.1
-    → HasStored grants (if◌then◌else◌ {A = Answer × State} b p q).1
-either_stored true grants p q h k = h
-either_stored false grants p q h k = k
-
-changed_stored :
-    (grants : List Grant) (s : State) (answer : Answer) (next : State)
-    → HasStored grants s
-    → HasStored grants next
-    → HasStored grants (change_to s answer next).1
-changed_stored grants s answer next h k =
-    either_stored (s.stamp == 0xFFFFFFFF) grants (answers.Worn, s)
-    (answer, record next { stamp = s.stamp + 1 }) h k
-
-where_stored :
-    (found : Bool) (grants : List Grant) (s : State) (answer : Answer) (next : State)
-    → HasStored grants s
-    → HasStored grants next
-    → HasStored grants (change_where found s answer next).1
-where_stored found grants s answer next h k =
-    either_stored found grants (change_to s answer next) (answers.NotFound, s)
-    (changed_stored grants s answer next h k) h
-
 pub empty_stored : (grants : List Grant) (stamp : ℕ) → HasStored grants (empty_state stamp)
 empty_stored grants stamp = λ e. absurd (let never : false ≡ true = e in cc)
 
@@ -153,32 +125,30 @@ pub entered_stored :
     → HasStored grants (entered_state dword0 dword1)
 entered_stored grants dword0 dword1 is = λ e. without_rc_stored grants dword0 dword1 is
 
+changed_stored :
+    (grants : List Grant) (s : State) {op : Op} {a : Answer} {next : State}
+    → Changes s op a next
+    → EntersOnly (AreStored grants) op
+    → HasStored grants s
+    → HasStored grants (record next { stamp = s.stamp + 1 })
+changed_stored grants s (enters dword0 dword1 valid) w h = entered_stored grants dword0 dword1 w
+changed_stored grants s (removes test valid) w h = empty_stored grants (s.stamp + 1)
+changed_stored grants s (protects test flags valid) w h =
+    λ e. protected_stored grants s.dword0 s.dword1 flags (h e)
+changed_stored grants s (clears_r valid) w h = h
+changed_stored grants s (clears_c valid) w h = h
+
 pub reply_stored :
     (grants : List Grant) (s : State) (op : Op)
     → EntersOnly (AreStored grants) op
     → HasStored grants s
     → HasStored grants (reply_of s op).1
-reply_stored grants s (ops.Enter dword0 dword1) w h =
-    either_stored s.valid grants (answers.Taken, s)
-    (change_to s answers.Entered (entered_state dword0 dword1)) h
-    (changed_stored grants s answers.Entered (entered_state dword0 dword1) h
-    (entered_stored grants dword0 dword1 w))
-reply_stored grants s (ops.Remove test) w h =
-    where_stored (is_found s test) grants s answers.Removed (empty_state 0) h
-    (empty_stored grants 0)
-reply_stored grants s (ops.Protect test flags) w h =
-    where_stored (is_found s test) grants s answers.Protected
-    (record s { dword1 = protected_word s.dword1 flags }) h
-    (λ e. protected_stored grants s.dword0 s.dword1 flags (h e))
-reply_stored grants s ops.Read w h = h
-reply_stored grants s ops.ClearRef w h =
-    where_stored s.valid grants s answers.Was (record s { referenced = false }) h h
-reply_stored grants s ops.ClearMod w h =
-    where_stored s.valid grants s answers.Was (record s { changed = false }) h h
-reply_stored grants s (ops.Access tag base key no_execute want masks) w h =
-    either_stored (is_match s tag base) grants
-    (answer_of_match s (access_mode key no_execute want masks)) (answers.NoMatch, s)
-    (either_stored (is_allowed s (access_mode key no_execute want masks)) grants
-    (answer_of_allowed s (access_mode key no_execute want masks)) (answers.Denied, s)
-    (either_stored (masks_refuse s (access_mode key no_execute want masks)) grants
-    (answers.Masked, s) (answers.At, touched_state s want) h h) h) h
+reply_stored grants s op w h = at (replied s op) w where
+  at :
+      {op : Op} {x : Answer × State}
+      → Replied s op x
+      → EntersOnly (AreStored grants) op
+      → HasStored grants x.1
+  at (left a is) w = h
+  at (changed a next changes is) w = changed_stored grants s changes w h
+  at (accessed tag base key no_execute want masks valid) w = h

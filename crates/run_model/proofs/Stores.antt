@@ -1,21 +1,20 @@
 -- A store that was allowed sets C, and C stays set until an operation clears it.
-use Rattle.std.specs.Prelude.{if◌then◌else◌, ◌==◌, ◌||◌}
-use Rattle.std.proofs.Common.{◌≡◌, ℕ, ◌+◌, List, [], ◌∷◌, Bool, true, false, ap, sym, ◌∙◌, refl, subst, ◌⊎◌, inl, inr}
-use Rattle.std.proofs.lemmas.Bool.{cases_Bool, and_parts}
+use Rattle.std.specs.Prelude.{if◌then◌else◌, ◌||◌}
+use Rattle.std.proofs.Common.{◌≡◌, ◌+◌, List, [], ◌∷◌, Bool, true, false, ap, sym, ◌∙◌, refl, subst, ◌⊎◌, inl, inr}
+use Rattle.std.proofs.lemmas.Bool.{cases_Bool, false≢true}
 use Rattle.storage_prot.specs.declared.want.Want.{Want}
-use Rattle.hpte_fields.specs.Fields.{protected_word}
-use Rattle.entry_model.specs.State.{State, empty_state}
+use Rattle.entry_model.specs.State.{State}
 use Rattle.entry_model.specs.declared.operation.Op.{Op}
 use Rattle.entry_model.specs.declared.operation.Answer.{Answer}
 use Rattle.entry_model.specs.declared.receipt.Receipt.{Receipt}
 use Rattle.entry_model.specs.Receipt.{after_of, is_at}
-use Rattle.entry_model.specs.Reply.{reply_of, change_to, change_where, is_found, is_match, answer_of_match, answer_of_allowed, masks_refuse, is_allowed, touched_state, is_store, access_mode}
+use Rattle.entry_model.specs.Reply.{reply_of, touched_state, is_store}
 use Rattle.entry_model.specs.History.{IsLegal}
+use Rattle.entry_model.proofs.Replied.{Changes, enters, removes, protects, clears_r, clears_c, Replied, replied, left, changed, accessed}
 use Rattle.run_model.specs.ShownStores.{clears_by, clears, stores_by, stores, ShowsChange, StoresAreShown}
 use Rattle.storage_prot.specs.declared.want.Want.TheVariants as wants
 use Rattle.entry_model.specs.declared.operation.Op.TheVariants as ops
 use Rattle.entry_model.specs.declared.operation.Answer.TheVariants as answers
-use Rattle.authority_mask.specs.declared.masks.Masks.{Masks}
 use Rattle.std.proofs.Math.Bool.{or-true}
 
 -- An entry whose C is set.
@@ -24,27 +23,20 @@ pub record IsDirty (s : State) : Type 0 where
   pub changed : s.changed ≡ true
 
 -- ---- one operation
-either_dirty :
-    (b : Bool) (p q : Answer × State) (P : Answer → Type 0)
-    → (P p.0 → IsDirty p.1)
-    → (P q.0 → IsDirty q.1)
-    → P (if◌then◌else◌ {A = Answer × State} b p q).0
-    → IsDirty (if◌then◌else◌ {A = Answer × State} b p q).1
-either_dirty true p q P h k = h
-either_dirty false p q P h k = k
-
-where_dirty :
-    (found : Bool) (s : State) (answer : Answer) (next : State) (P : Answer → Type 0)
+changed_keeps :
+    (s : State) {op : Op} {a : Answer} {next : State}
+    → Changes s op a next
     → IsDirty s
-    → (P answer → IsDirty next)
-    → P (change_where found s answer next).0
-    → IsDirty (change_where found s answer next).1
-where_dirty found s answer next P d h k =
-    either_dirty found (change_to s answer next) (answers.NotFound, s) P
-    (either_dirty (s.stamp == 0xFFFFFFFF) (answers.Worn, s)
-    (answer, record next { stamp = s.stamp + 1 }) P (λ e. d)
-    (λ e. let n = h e in record { valid = n.valid; changed = n.changed }))
-    (λ e. d) k
+    → clears_by op a ≡ false
+    → IsDirty (record next { stamp = s.stamp + 1 })
+changed_keeps s (enters dword0 dword1 valid) d c = absurd (false≢true (sym valid ∙ d.valid))
+changed_keeps s (removes test valid) d c = absurd (false≢true (sym c))
+changed_keeps s (protects test flags valid) d c = record { valid = d.valid; changed = d.changed }
+changed_keeps s (clears_r valid) d c = record { valid = d.valid; changed = d.changed }
+changed_keeps s (clears_c valid) d c = absurd (false≢true (sym c))
+
+touched_dirty : (s : State) (want : Want) → IsDirty s → IsDirty (touched_state s want)
+touched_dirty s want d = record { valid = d.valid; changed = rw d.changed refl }
 
 -- What doesn't clear C keeps it.
 op_keeps :
@@ -52,33 +44,11 @@ op_keeps :
     → IsDirty s
     → clears_by op (reply_of s op).0 ≡ false
     → IsDirty (reply_of s op).1
-op_keeps s (ops.Enter dword0 dword1) d c = rw d.valid (record { valid = refl; changed = d.changed })
-op_keeps s (ops.Remove test) d c =
-    where_dirty (is_found s test) s answers.Removed (empty_state 0)
-    (λ a. clears_by (ops.Remove test) a ≡ false) d
-    (λ e. absurd (let no : true ≡ false = e in cc)) c
-op_keeps s (ops.Protect test flags) d c =
-    where_dirty (is_found s test) s answers.Protected
-    (record s { dword1 = protected_word s.dword1 flags }) (λ a. Unit {0}) d
-    (λ e. record { valid = d.valid; changed = d.changed }) tt
-op_keeps s ops.Read d c = d
-op_keeps s ops.ClearRef d c =
-    where_dirty s.valid s answers.Was (record s { referenced = false }) (λ a. Unit {0}) d
-    (λ e. record { valid = d.valid; changed = d.changed }) tt
-op_keeps s ops.ClearMod d c =
-    where_dirty s.valid s answers.Was (record s { changed = false })
-    (λ a. clears_by ops.ClearMod a ≡ false) d (λ e. absurd (let no : true ≡ false = e in cc)) c
-op_keeps s (ops.Access tag base key no_execute want masks) d c =
-    either_dirty (is_match s tag base) (answer_of_match s (access_mode key no_execute want masks))
-    (answers.NoMatch, s) (λ a. Unit {0})
-    (either_dirty (is_allowed s (access_mode key no_execute want masks))
-    (answer_of_allowed s (access_mode key no_execute want masks)) (answers.Denied, s)
-    (λ a. Unit {0})
-    (either_dirty (masks_refuse s (access_mode key no_execute want masks)) (answers.Masked, s)
-    (answers.At, touched_state s want) (λ a. Unit {0}) (λ e. d)
-    (λ e. record { valid = d.valid; changed = rw d.changed refl }))
-    (λ e. d))
-    (λ e. d) tt
+op_keeps s op d = at (replied s op) where
+  at : {op : Op} {x : Answer × State} → Replied s op x → clears_by op x.0 ≡ false → IsDirty x.1
+  at (left a is) c = d
+  at (changed a next changes is) c = changed_keeps s changes d c
+  at (accessed tag base key no_execute want masks valid) c = touched_dirty s want d
 
 store_changes :
     (want : Want) (s : State)
@@ -93,44 +63,18 @@ not_at wants.Store b e h = let no : true ≡ false = sym h ∙ e in cc
 not_at wants.Load b e h = cc
 not_at wants.Fetch b e h = cc
 
-access_stores :
-    (s : State) (tag base : ℕ) (key no_execute : Bool) (want : Want) (masks : Masks)
-    → stores_by (ops.Access tag base key no_execute want masks)
-    (reply_of s (ops.Access tag base key no_execute want masks)).0
-    ≡ true
-    → IsDirty (reply_of s (ops.Access tag base key no_execute want masks)).1
-access_stores s tag base key no_execute want masks h = at (cases_Bool (is_match s tag base)) where
-  P : Answer → Type 0
-  P a = (if is_store want then is_at a else false) ≡ true
-
-  at :
-      (is_match s tag base ≡ true) ⊎ (is_match s tag base ≡ false)
-      → IsDirty (reply_of s (ops.Access tag base key no_execute want masks)).1
-  at (inl m) =
-      either_dirty (is_match s tag base) (answer_of_match s (access_mode key no_execute want masks))
-      (answers.NoMatch, s) P
-      (either_dirty (is_allowed s (access_mode key no_execute want masks))
-      (answer_of_allowed s (access_mode key no_execute want masks)) (answers.Denied, s) P
-      (either_dirty (masks_refuse s (access_mode key no_execute want masks)) (answers.Masked, s)
-      (answers.At, touched_state s want) P
-      (λ e. absurd (not_at want (is_at answers.Masked) refl e))
-      (λ e. record { valid = (and_parts _ _ m).0; changed = store_changes want s e }))
-      (λ e. absurd (not_at want (is_at answers.Denied) refl e)))
-      (λ e. absurd (not_at want (is_at answers.NoMatch) refl e)) h
-  at (inr m) =
-      let h' : P answers.NoMatch = rw m at h in
-      absurd (not_at want (is_at answers.NoMatch) refl h')
+no_store : (op : Op) (a : Answer) → is_at a ≡ false → stores_by op a ≡ true → ⊥
+no_store (ops.Access tag base key no_execute want masks) a e h = not_at want (is_at a) e h
+no_store other a e h = cc
 
 op_stores :
     (s : State) (op : Op) → stores_by op (reply_of s op).0 ≡ true → IsDirty (reply_of s op).1
-op_stores s (ops.Enter dword0 dword1) h = cc
-op_stores s (ops.Remove test) h = cc
-op_stores s (ops.Protect test flags) h = cc
-op_stores s ops.Read h = cc
-op_stores s ops.ClearRef h = cc
-op_stores s ops.ClearMod h = cc
-op_stores s (ops.Access tag base key no_execute want masks) h =
-    access_stores s tag base key no_execute want masks h
+op_stores s op = at (replied s op) where
+  at : {op : Op} {x : Answer × State} → Replied s op x → stores_by op x.0 ≡ true → IsDirty x.1
+  at {op} (left a is) h = absurd (no_store op a is.no_at h)
+  at {op} (changed a next changes is) h = absurd (no_store op a is.no_at h)
+  at (accessed tag base key no_execute want masks valid) h =
+      record { valid = valid; changed = store_changes want s h }
 
 keeps : (r : Receipt) → IsDirty r.before → clears r ≡ false → IsDirty (after_of r)
 keeps r d c = op_keeps r.before r.op d (ap (clears_by r.op) (sym r.lawful) ∙ c)

@@ -34,8 +34,8 @@ pub record IsPastLine (states : List State) (line : Line) (rs : List Receipt) : 
   pub left : line.stamp < (state_at states line.entry).stamp
   pub later : AllLater line rs
 
--- By the way that was taken, and the line of the page that was cached. Where none was there is no
--- hit.
+-- How an access used the line of its page that was cached: a hit is by that line while it is
+-- current, and a walk goes past a line that is gone. Where no line was cached there is no hit.
 abbrev pub UsesLine : List State → Option By → Option Line → List Receipt → Type 0
 UsesLine states (Some Hit) (Some line) rs = IsByCurrentLine line rs
 UsesLine states (Some Hit) None rs = ⊥

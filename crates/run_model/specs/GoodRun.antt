@@ -78,7 +78,7 @@ AreInOrder s =
 abbrev pub CallsAreReplied : Section → Type 0
 CallsAreReplied s = EachLine (λ p t. IsCallReply (context_of s.before) t.line.act t.reply) s
 
--- And each access, where the store closes on its states.
+-- Each access has the reply of its receipts, where the store closes on its states.
 abbrev pub AccessesAreReplied : Section → Type 0
 AccessesAreReplied s =
     EachLine (IsAccessLine (access_of (context_of s.before)) (states_of (closing s))) s

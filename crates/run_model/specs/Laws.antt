@@ -148,7 +148,7 @@ PutsAreBusyWhereTaken =
     (λ (x : RepliedLine). BusyWhereTaken x.line.act x.reply)
     (lines_with_replies t.lines rs)
 
--- In the serial run it never is.
+-- In the serial run no reply of an H_PUT_TCE is H_BUSY.
 abbrev pub SerialPutsAreNotBusy : Type 0
 SerialPutsAreNotBusy =
     (t : AcceptedTrace)

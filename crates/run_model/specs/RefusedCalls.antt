@@ -148,7 +148,7 @@ FoundNone calls.Prepare rc.NoMem args memory =
     is_pending (slice_index args 1) memory.pending ≡ false
 FoundNone call code args memory = Unit {0}
 
--- The same of a line: a table that it drops for want of memory is of another order.
+-- A pending table that a line drops for want of memory is of another order than the line asks for.
 abbrev pub DropsAnother : Act → Reply → Store → Type 0
 DropsAnother (acts.Call number args spelt) (replies.Hcall h) w =
     FoundNone (hcall_of number) h.rc args w.memory

@@ -78,7 +78,7 @@ after_quiet s (Some q) = (run_quiet_line s q.line.act).1
 abbrev pub quiet_on : (Act → Bool) → RepliedLine → Option RepliedLine
 quiet_on on q = if on q.line.act then Some q else None
 
--- Of these lines those on the store.
+-- The section of a store that has those of these lines that are on it, and this quiet line.
 abbrev pub section_of : (Act → Bool) → Store → List RepliedLine → Option RepliedLine → Section
 section_of on s ts quiet = record { before = s; replied_lines = lines_on on ts; quiet = quiet }
 
@@ -95,10 +95,10 @@ sections_on t rs s =
     let c = cut (lines_with_replies t.lines rs) in
     sections_from (is_on t.config.windows s.window) s c.0 c.1
 
--- Those of the page table.
+-- The sections of the page table in a run with these replies.
 abbrev pub sections_of : AcceptedTrace → List Reply → List Section
 sections_of t rs = sections_on t rs (page_table t.config)
 
--- Those of a window.
+-- The sections of a window in a run with these replies.
 abbrev pub window_sections : AcceptedTrace → List Reply → BusWindow → List Section
 window_sections t rs w = sections_on t rs (opening_store t.config w)

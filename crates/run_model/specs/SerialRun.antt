@@ -57,7 +57,8 @@ access_result context a by run =
     let outcome = outcome_of context.grants a.ea run.0 in
     (replies.Access (record { outcome = outcome; by = Some by; receipts = run.0 }), run.1)
 
--- By the line of the page that is cached and current, else by a walk.
+-- The result of an access in a segment: by the cached line of its page where that is current, else
+-- by a walk.
 abbrev pub result_by_line :
     AccessContext → List State → Segment → Request → Option Line → Reply × List State
 result_by_line context states seg a (Some line) =
@@ -66,7 +67,7 @@ result_by_line context states seg a None =
     let calls = walk_calls context.order seg.page (mode_for seg a) in
     access_result context a Walk (trial_run is_no_match states calls)
 
--- By the segment of the address, if there is one.
+-- The result of an access: by the segment of its address, or without one.
 abbrev pub result_by_segment :
     AccessContext → Processor → List State → Request → Option Segment → Reply × List State
 result_by_segment context p states a None = (replies.Access no_segment_reply, states)
@@ -80,14 +81,15 @@ abbrev pub device_result :
 device_result grants ioba write run =
     (replies.Device (device_reply_with (device_outcome grants ioba write run.0) run.0), run.1)
 
--- By the entry of the page, if the window has one.
+-- The result of a device's access: by the entry of its page, if the window has one.
 abbrev pub device_by_entry :
     List Grant → ℕ → Bool → List State → Option ℕ → Reply × List State
 device_by_entry grants ioba write states None = (replies.Device no_window_reply, states)
 device_by_entry grants ioba write states (Some entry) =
     device_result grants ioba write (trial_run (λ answer. true) states (call Read entry ∷ []))
 
--- By the window whose entries these are, if they are one's.
+-- The result of a device's access on a store: by the window whose entries these are, if they are a
+-- window's.
 abbrev pub device_by_window :
     List Grant → Option BusWindow → ℕ → Bool → List State → Reply × List State
 device_by_window grants None ioba write states = (replies.Device no_window_reply, states)

@@ -1,4 +1,4 @@
--- The same section by section: all stores side by side, from one quiet line to the next.
+-- A good run section by section: all stores side by side, from one quiet line to the next.
 use Rattle.std.specs.Prelude.{List, [], ◌∷◌, map, Option, Some, None}
 use Rattle.std.specs.List.{AllByRecursion}
 use Rattle.bus_window.specs.Windows.{BusWindow}

@@ -9,7 +9,7 @@ use Rattle.c_layout.specs.Accesses.{want_of, page_of}
 use Rattle.c_layout.specs.WalkEnds.{mode_of}
 use Rattle.shared_pass.specs.declared.walk.PageWalk.{PageWalk}
 
--- Where there is a page and a kind of access.
+-- The walk of an access, where there is a page and a kind of access.
 abbrev pub walk_where : Option VirtualPage → Option Want → PaprAccess → Option PageWalk
 walk_where (Some page) (Some want) a = Some (record { access = a; page = page; want = want })
 walk_where page want a = None
@@ -18,6 +18,6 @@ walk_where page want a = None
 abbrev pub walk_asked : PaprAccess → Option PageWalk
 walk_asked a = walk_where (page_of a) (want_of a.want) a
 
--- Its calls on a table of 2 ^ order bytes: those on the entries of the page's two groups.
+-- The calls of a walk on a table of 2 ^ order bytes: those on the entries of the page's two groups.
 abbrev pub calls_of_walk : ℕ → PageWalk → List Call
 calls_of_walk order w = walk_calls order w.page (mode_of w.access w.want)

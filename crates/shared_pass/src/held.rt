@@ -42,7 +42,7 @@ impl HeldCall {
         }
     }
 
-    /// Its plan.
+    /// The plan of the call.
     #[inline]
     pub fn plan<'a>(&'a self) -> CallPlan<'a>
         ensures plan { plan_of result ≡ plan_of_held self.now }

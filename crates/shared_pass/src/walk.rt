@@ -14,7 +14,7 @@ use storage_prot::Want;
 pub struct PageWalk {
     /// The access as C asks for it.
     pub access: PaprAccess,
-    /// Its page.
+    /// The page of the access's address.
     pub page: Page,
     /// What it wants.
     pub want: Want,
@@ -37,7 +37,7 @@ impl PageWalk {
         })
     }
 
-    /// Its calls on a table of `2^order` bytes.
+    /// The walk's calls on a table of `2^order` bytes.
     #[inline]
     pub fn calls(&self, order: u8) -> PageCalls
         requires order { IsTableOrder order }

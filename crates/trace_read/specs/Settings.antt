@@ -24,7 +24,7 @@ settings_beside pool_base pool_order = record {
   windows = [];
 }
 
--- Those beside a pool of 2 ^ 24 bytes.
+-- The settings of a trace without configuration lines: those beside a pool of 2 ^ 24 bytes.
 abbrev pub default_settings : Configuration
 default_settings = settings_beside 0x1000000000 24
 

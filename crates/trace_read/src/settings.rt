@@ -75,7 +75,7 @@ impl Model for Settings {
 }
 
 impl Settings {
-    /// Those of a trace without configuration lines, where this pool stands.
+    /// The settings of a trace without configuration lines, where this pool stands.
     pub fn new(alloc: Global, pool_base: u64, pool_order: u8) -> Self
         requires { IsPoolRange pool_base pool_order }
         ensures { result ≡ settings_beside pool_base pool_order }

@@ -151,7 +151,7 @@ impl Cpu {
         end.into_reply(receipts)
     }
 
-    /// The same access, whose receipts take the place of what is in `receipts`.
+    /// Makes the access that `access` makes, with its receipts in place of what is in `receipts`.
     // Out of line: docs/PERFORMANCE.md says why.
     #[inline(never)]
     pub fn access_into<T: EntryStore>(

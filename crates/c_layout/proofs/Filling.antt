@@ -1,6 +1,6 @@
 -- Places that are filled one after the other from the first on.
 use Rattle.std.proofs.Common.{◌≡◌, ℕ, zero, suc, ◌+◌, ◌<◌, ◌≤◌, List, [], ◌∷◌, ◌++◌, length, take, drop, set, get_or, min, refl, ap, sym, ◌∙◌, ◌⊎◌, inl, inr, arith, add-zero}
-use Rattle.std.proofs.lemmas.List.{take_all, drop_all}
+use Rattle.std.proofs.lemmas.List.{take_all, drop_all, length-take-le, take_more}
 use Rattle.std.proofs.Math.Numerals.{add-one}
 use Rattle.std.proofs.lemmas.Bool.{cases_lt}
 use Rattle.c_layout.specs.Slots.{filled, placed}
@@ -80,18 +80,17 @@ placed_filled (x ∷ items) [] = placed-none items 1
 placed_filled (x ∷ items) (o ∷ old) =
     placed-shift items old x 0 ∙ ap (λ rest. x ∷ rest) (placed_filled items old)
 
-take_next :
-    {X : Type 0} (xs : List X) (i : ℕ) (d : X)
-    → i < length xs
-    → take (suc i) xs ≡ take i xs ++ get_or xs i d ∷ []
-take_next [] i d h = absurd (omega (arith, h))
-take_next (x ∷ xs) zero d h = refl
-take_next (x ∷ xs) (suc i) d h = ap (λ rest. x ∷ rest) (take_next xs i d (omega (arith, h)))
-
-length-first : {X : Type 0} (xs : List X) (i : ℕ) → i < length xs → length (take i xs) ≡ i
-length-first [] i h = absurd (omega (arith, h))
-length-first (x ∷ xs) zero h = refl
-length-first (x ∷ xs) (suc i) h = ap suc (length-first xs i (omega (arith, h)))
+-- Behind the items that are put, the old ones stand.
+pub get_rest :
+    {X : Type 0} (items old : List X) (i : ℕ) (d : X)
+    → i < length items
+    → i < length old
+    → get_or (take i items ++ drop i old) i d ≡ get_or old i d
+get_rest [] old i d inside below = absurd (omega (arith, inside))
+get_rest (x ∷ items) [] i d inside below = absurd (omega (arith, below))
+get_rest (x ∷ items) (o ∷ old) zero d inside below = refl
+get_rest (x ∷ items) (o ∷ old) (suc i) d inside below =
+    get_rest items old i d (omega (arith, inside)) (omega (arith, below))
 
 -- One more item of a list.
 pub put_item :
@@ -101,11 +100,10 @@ pub put_item :
     → x ≡ get_or items i d
     → set now i x ≡ placed old 0 (take (i + 1) items)
 put_item items old now i d x below is read =
-    let at : 0 + length (take i items) ≡ i = omega (arith, length-first items i below) in
-    let next : i + 1 ≡ suc i = omega arith in
+    let few : i ≤ length items = omega (arith, below) in
+    let at : 0 + length (take i items) ≡ i = omega (arith, length-take-le i items few) in
     sym
-    (ap (λ k. placed old 0 (take k items)) next
-    ∙ ap (placed old 0) (take_next items i d below)
+    (ap (placed old 0) (take_more items i d below)
     ∙ placed-append (take i items) (get_or items i d ∷ []) old 0
     ∙ (λ k. set (sym is k) (at k) (sym read k)))
 

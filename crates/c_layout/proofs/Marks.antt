@@ -7,7 +7,6 @@ use Rattle.entry_model.specs.State.{State, empty_state, Follows}
 use Rattle.entry_model.specs.History.{state_eq, bits}
 use Rattle.entry_model.proofs.Follows.{stays, follows_on, same_or_more}
 use Rattle.entry_model.proofs.Sorted.{state_same, state_self}
-use Rattle.hpt_resize.specs.Holders.{all_holding}
 use Rattle.c_layout.specs.EntryFacts.{same_entry}
 use Rattle.c_layout.specs.Entries.{Entry, states_of, entry_with, entries_with, AreMarked, IsPassed, ArePassed}
 use Rattle.std.proofs.Math.Bool.{or-true}
@@ -56,7 +55,7 @@ told_once s t u a b = at (cases_Bool (state_eq s t)) (cases_Bool (state_eq s u))
       let same : state_eq s t ≡ true = ap (state_eq s) here ∙ state_self s in
       absurd (cc)
 
-or_assoc : (a b c : Bool) → ((a || b) || c) ≡ (a || (b || c))
+pub or_assoc : (a b c : Bool) → ((a || b) || c) ≡ (a || (b || c))
 or_assoc true b c = refl
 or_assoc false b c = refl
 
@@ -142,10 +141,3 @@ unmarked_same e s none = at (cases_Bool (state_eq e.state s)) where
   at (inr other) =
       let marked : (entry_with e s).marked ≡ true = rw other (or-true e.marked) in
       absurd (cc)
-
--- Entries hold states as all holders do.
-pub holders_are :
-    (es : List Entry) (ss : List State) → all_holding entry_with es ss ≡ entries_with es ss
-holders_are [] ss = refl
-holders_are (e ∷ es) [] = refl
-holders_are (e ∷ es) (s ∷ ss) = ap (λ xs. entry_with e s ∷ xs) (holders_are es ss)

@@ -87,12 +87,12 @@ unfolding bulk_calls
 end_trial order request word later asks = rw asks tt
 
 pub end_told :
-    (order request word : ℕ) (later : List ℕ)
+    (order request word : ℕ) (later : List ℕ) (rs : List Receipt)
     → asked_by order (pair request word) ≡ End
-    → told_of order (request ∷ word ∷ later) []
+    → told_of order (request ∷ word ∷ later) rs
     ≡ (rc.Success, request ∷ word ∷ words_of_pairs (pairs_of later))
 unfolding bulk_told
-end_told order request word later asks = rw asks refl
+end_told order request word later rs asks = rw asks refl
 
 pub refused_trial :
     (order request word : ℕ) (later : List ℕ)
@@ -102,12 +102,12 @@ unfolding bulk_calls
 refused_trial order request word later asks = rw asks tt
 
 pub refused_told :
-    (order request word : ℕ) (later : List ℕ)
+    (order request word : ℕ) (later : List ℕ) (rs : List Receipt)
     → asked_by order (pair request word) ≡ Refused
-    → told_of order (request ∷ word ∷ later) []
+    → told_of order (request ∷ word ∷ later) rs
     ≡ (rc.Parameter, response ill_formed request ∷ word ∷ words_of_pairs (pairs_of later))
 unfolding bulk_told
-refused_told order request word later asks = rw asks refl
+refused_told order request word later rs asks = rw asks refl
 
 pub worn_trial :
     (order request word : ℕ) (later : List ℕ) (entry : ℕ) (test : Test) (r : Receipt)
@@ -120,12 +120,13 @@ worn_trial order request word later entry test r asks of worn = rw asks (of, rw 
 
 pub worn_told :
     (order request word : ℕ) (later : List ℕ) (entry : ℕ) (test : Test) (r : Receipt)
+    (rs : List Receipt)
     → asked_by order (pair request word) ≡ Remove entry test
     → is_worn r.answer ≡ true
-    → told_of order (request ∷ word ∷ later) (r ∷ [])
+    → told_of order (request ∷ word ∷ later) (r ∷ rs)
     ≡ (rc.Hardware, response worn_status request ∷ word ∷ words_of_pairs (pairs_of later))
 unfolding bulk_told
-worn_told order request word later entry test r asks worn = rw (asks, worn) refl
+worn_told order request word later entry test r rs asks worn = rw (asks, worn) refl
 
 pub goes_trial :
     (order request word : ℕ) (later : List ℕ) (entry : ℕ) (test : Test) (r : Receipt)
@@ -248,7 +249,7 @@ ends_at_end order i pairs words receipts eight h asks so_far =
     (record { rc = rc.Success; words = words ++ z.0; receipts = z.1 }))
     (λ k. (sym stay k, append-nil receipts k))
     (closes order i pairs words receipts _ _ [] rc.Success so_far first
-    (end_trial order _ _ _ (sym asks)) (end_told order _ _ _ (sym asks)))
+    (end_trial order _ _ _ (sym asks)) (end_told order _ _ _ [] (sym asks)))
 
 -- A response, and the words that stay behind it.
 pub response_and_rest :
@@ -291,7 +292,7 @@ ends_at_refused order i pairs words receipts eight h asks so_far =
       append-nil receipts k,
     ))
     (closes order i pairs words receipts _ _ [] rc.Parameter so_far (first_pair i pairs eight h)
-    (refused_trial order _ _ _ asks) (refused_told order _ _ _ asks))
+    (refused_trial order _ _ _ asks) (refused_told order _ _ _ [] asks))
 
 pub ends_at_worn :
     (order i : ℕ) (pairs words : List ℕ) (receipts : List Receipt) (entry : ℕ) (test : Test)
@@ -318,7 +319,7 @@ ends_at_worn order i pairs words receipts entry test r eight h asks of worn so_f
     (response_and_rest i (response worn_status (get_or pairs (2 * i) 0)) pairs words eight h)
     (closes order i pairs words receipts _ _ (r ∷ []) rc.Hardware so_far
     (first_pair i pairs eight h) (worn_trial order _ _ _ entry test r (sym asks) of worn)
-    (worn_told order _ _ _ entry test r (sym asks) worn))
+    (worn_told order _ _ _ entry test r [] (sym asks) worn))
 
 pub ends_behind_all :
     (order i : ℕ) (pairs words : List ℕ) (receipts : List Receipt)

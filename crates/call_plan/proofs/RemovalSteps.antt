@@ -7,7 +7,7 @@ use Rattle.entry_model.specs.declared.receipt.Receipt.{Receipt}
 use Rattle.entry_model.specs.Receipt.{is_worn, blank_receipt}
 use Rattle.call_plan.specs.declared.bulk.Asked.TheVariants.{End, Remove, Refused}
 use Rattle.call_plan.specs.Bulk.{pairs_of, asked_by, bulk_told, response, status_of, worn_status, ill_formed, words_of_pairs}
-use Rattle.call_plan.proofs.BulkSteps.{pair, told_of, after_words, words_from, asked_at, first_pair, unchanged-words_from, words_to_end, response_and_rest, goes_told}
+use Rattle.call_plan.proofs.BulkSteps.{pair, told_of, after_words, words_from, asked_at, first_pair, unchanged-words_from, words_to_end, response_and_rest, goes_told, end_told, refused_told, worn_told}
 use Rattle.papr_codes.specs.declared.codes.Rc.TheVariants as rc
 
 -- ---- what the receipts tell
@@ -24,22 +24,6 @@ told_closes :
 told_closes order i pairs words rs code last so_far told =
     sym (so_far.told ∙ ap (after_words words) told)
 
-end_told :
-    (order request word : ℕ) (later : List ℕ) (rs : List Receipt)
-    → asked_by order (pair request word) ≡ End
-    → told_of order (request ∷ word ∷ later) rs
-    ≡ (rc.Success, request ∷ word ∷ words_of_pairs (pairs_of later))
-unfolding bulk_told
-end_told order request word later rs asks = rw asks refl
-
-refused_told :
-    (order request word : ℕ) (later : List ℕ) (rs : List Receipt)
-    → asked_by order (pair request word) ≡ Refused
-    → told_of order (request ∷ word ∷ later) rs
-    ≡ (rc.Parameter, response ill_formed request ∷ word ∷ words_of_pairs (pairs_of later))
-unfolding bulk_told
-refused_told order request word later rs asks = rw asks refl
-
 missing_told :
     (order request word : ℕ) (later : List ℕ) (entry : ℕ) (test : Test)
     → asked_by order (pair request word) ≡ Remove entry test
@@ -47,16 +31,6 @@ missing_told :
     ≡ (rc.Hardware, request ∷ word ∷ words_of_pairs (pairs_of later))
 unfolding bulk_told
 missing_told order request word later entry test asks = rw asks refl
-
-last_told :
-    (order request word : ℕ) (later : List ℕ) (entry : ℕ) (test : Test) (r : Receipt)
-    (rs : List Receipt)
-    → asked_by order (pair request word) ≡ Remove entry test
-    → is_worn r.answer ≡ true
-    → told_of order (request ∷ word ∷ later) (r ∷ rs)
-    ≡ (rc.Hardware, response worn_status request ∷ word ∷ words_of_pairs (pairs_of later))
-unfolding bulk_told
-last_told order request word later entry test r rs asks worn = rw (asks, worn) refl
 
 -- The words from a pair on, as they were given.
 rest_is :
@@ -145,7 +119,7 @@ tells_worn order i pairs words rs entry test r eight h asks inside is worn so_fa
     h))
     ∙ told_closes order i pairs words rs rc.Hardware _ so_far
     ((λ k. told_of order (first_pair i pairs eight h k) (next k))
-    ∙ last_told order _ _ _ entry test r (drop (i + 1) rs) asks worn)
+    ∙ worn_told order _ _ _ entry test r (drop (i + 1) rs) asks worn)
 
 pub tells_all :
     (order i : ℕ) (pairs words : List ℕ) (rs : List Receipt)

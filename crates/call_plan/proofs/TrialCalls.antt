@@ -23,7 +23,7 @@ trial_in order t fits =
     (omega (arith, fits.few, at_most t.told))
 
 -- A trial makes at most its calls.
-few_of :
+pub few_of :
     (goes : Answer.Answer → Bool) (cs : List Call) (rs : List Receipt)
     → IsTrial goes cs rs
     → length rs ≤ length cs

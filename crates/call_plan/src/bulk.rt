@@ -162,6 +162,7 @@ fn ended(rc: Rc, mut words: ReplyWords, unchanged: &[u64]) -> Registers
 
 /// What the receipts of a bulk removal tell: the code, and all eight words, with a response in
 /// place of each request that was taken up.
+#[inline(always)]
 pub fn removal_registers(order: u8, pairs: &[u64; 8], receipts: &[Receipt]) -> Registers
     requires order { IsTableOrder order }
     ensures { (result.rc, result.words)

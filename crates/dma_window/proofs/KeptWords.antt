@@ -2,8 +2,9 @@
 use Rattle.std.proofs.Common.{◌≡◌, ℕ, Bool, true, false, Some, refl, ap, ◌∙◌, bit_and, bit_or}
 use Rattle.std.specs.Prelude.{◌+◌, ◌==◌, if◌then◌else◌}
 use Rattle.std.specs.Int.Bits.{or_zero_r, and_zero_r}
+use Rattle.std.proofs.lemmas.Nat.{and_assoc}
 use Rattle.hpte_fields.specs.Fields.{normal_words, stored_second, without_rc}
-use Rattle.hpte_fields.proofs.Masks.{masks_join, mask_of_or}
+use Rattle.hpte_fields.proofs.Masks.{mask_of_or}
 use Rattle.entry_model.specs.Reply.{entered_state}
 use Rattle.dma_window.specs.Entries.{address_of, permission, permits, first_word, second_word, tce_of}
 use Rattle.dma_window.specs.Laws.{IsKept}
@@ -24,7 +25,7 @@ normal_by false false dword1 = refl
 second_stays : (tce : ℕ) → stored_second (second_word tce) ≡ second_word tce
 second_stays tce =
     mask_of_or (address_of tce) 0x10 0xBFFFFFFFFFFFFFFF
-    ∙ ap (λ a. bit_or a 0x10) (masks_join tce 0x0FFFFFFFFFFFF000 0xBFFFFFFFFFFFFFFF)
+    ∙ ap (λ a. bit_or a 0x10) (and_assoc 0xBFFFFFFFFFFFFFFF tce 0x0FFFFFFFFFFFF000)
 
 pub kept_words_normal :
     (tce : ℕ)
@@ -61,11 +62,11 @@ address_under :
     ≡ bit_and tce (bit_and 0x0FFFFFFFFFFFF000 m)
 address_under tce m =
     ap (λ x. bit_and x m)
-    (masks_join (second_word tce) 0xFFFFFFFFFFFFFE7F 0x0FFFFFFFFFFFF000
+    (and_assoc 0x0FFFFFFFFFFFF000 (second_word tce) 0xFFFFFFFFFFFFFE7F
     ∙ mask_of_or (address_of tce) 0x10 0x0FFFFFFFFFFFF000
     ∙ or_zero_r _
-    ∙ masks_join tce 0x0FFFFFFFFFFFF000 0x0FFFFFFFFFFFF000)
-    ∙ masks_join tce 0x0FFFFFFFFFFFF000 m
+    ∙ and_assoc 0x0FFFFFFFFFFFF000 tce 0x0FFFFFFFFFFFF000)
+    ∙ and_assoc m tce 0x0FFFFFFFFFFFF000
 
 address_kept :
     (tce : ℕ) (read write : Bool)

@@ -53,6 +53,7 @@ fn tce_registers(plan: &TcePlan, receipts: &[Receipt]) -> Registers
 }
 
 /// Makes a call on the TCEs of a window, with its receipts in place of what is in `receipts`.
+#[inline(always)]
 pub fn run_tce_plan<T: EntryStore>(
     store: &mut T,
     plan: &TcePlan,

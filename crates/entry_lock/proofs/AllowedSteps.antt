@@ -1,6 +1,7 @@
 -- What each step on the table asks for.
 use Rattle.std.proofs.Common.{◌∷◌, ◌≡◌, ℕ, ◌<◌, ◌==◌, ◌&&◌, not, Bool, true, false, List, length, get_or, refl, sym, ap, ◌∙◌, subst, arith, None}
 use Rattle.std.specs.Int.Bits.{bit_or, bit_and}
+use Rattle.std.proofs.lemmas.List.{set-get_or}
 use mathlib.Core.Option.{none}
 use Rattle.atomic_table.specs.Table.{Me, keeps, step, Allows}
 use Rattle.entry_model.specs.declared.operation.Op.{Op}
@@ -22,7 +23,6 @@ use Rattle.entry_lock.specs.Plays.{BeginPlay, HeldPlay, HeldDataPlay, ShutPlay, 
 use Rattle.entry_lock.specs.PassInvariants.{IsActing}
 use Rattle.atomic_table.proofs.Lists.{set_again as view_again}
 use Rattle.entry_lock.proofs.ViewLists.{total_one}
-use Rattle.entry_lock.proofs.Places.{word_read}
 use Rattle.entry_model.specs.declared.line.Line.{Line}
 use Rattle.entry_lock.proofs.LineOperations.{known_step, known_again_step, known_mark_step}
 use Rattle.entry_lock.proofs.PassSteps.{numbered}
@@ -275,7 +275,7 @@ shares_allowed key slots id m acts s h deep at fits = (
   subst
       (λ (z : List ℕ × List View).
       ShowsRun key (record { words = z.0; homes = s.homes; views = z.1 }))
-      (λ i. (sym (word_read s.words 0) i, sym (view_again s.views id m.0 at) i)) h,
+      (λ i. (sym (set-get_or s.words 0 0) i, sym (view_again s.views id m.0 at) i)) h,
   (
     refl,
     (let t = total_one (λ (v : View). length v.numbers) s.views id m.0 at in

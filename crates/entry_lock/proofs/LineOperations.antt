@@ -4,6 +4,7 @@ use Rattle.std.proofs.Common.{◌≡◌, ℕ, ◌+◌, ◌*◌, ◌<◌, ◌==�
 use Rattle.std.proofs.lemmas.Bool.{false≢true, or_parts, cases_Bool}
 use Rattle.std.proofs.lemmas.Option.{slice_get-get_or}
 use Rattle.std.specs.Option.{option_or}
+use Rattle.std.proofs.lemmas.List.{set-set, set-get_or}
 use mathlib.Core.Logic.{dite}
 use native.Mathlib.Decide.{ℕ_discrete}
 use mathlib.Core.Option.{some}
@@ -27,7 +28,7 @@ use Rattle.lock_core.specs.Machine.{Actor, Machine, is_at, words_in, words_at, w
 use Rattle.lock_core.specs.Steps.{new_doing}
 use Rattle.lock_core.specs.Laws.{sighting_by}
 use Rattle.lock_core.proofs.Kept.{IsFresh}
-use Rattle.lock_core.proofs.Lists.{set_again, set_twice, some_of}
+use Rattle.lock_core.proofs.Lists.{set_again, some_of}
 use Rattle.lock_core.proofs.Noted.{bits_cleared, cleared_same}
 use Rattle.entry_lock.specs.declared.rule.View.{View}
 use Rattle.entry_lock.specs.declared.rule.Opening.{Opening}
@@ -40,7 +41,6 @@ use Rattle.entry_lock.specs.SeenLines.{IsSeen}
 use Rattle.entry_lock.specs.LineSteps.{is_gone_from, doing_by_line, LineLookTells, LineSecondLookTells, LineMarkTells}
 use Rattle.entry_lock.proofs.Bits.{same_word}
 use Rattle.entry_lock.proofs.ViewLists.{set_view}
-use Rattle.entry_lock.proofs.Places.{word_read}
 use Rattle.entry_lock.proofs.Frame.{Fronts, other_phase, Frame, shows_put}
 use Rattle.entry_lock.proofs.PassSteps.{kept, me, entry_there, has_number}
 use Rattle.entry_lock.proofs.TakenSteps.{own_still}
@@ -232,7 +232,7 @@ module _ (key : Opening) (s : TableState ℕ View) (steps : List (ℕ × Step))
           (
             steps,
             subst (λ l. ShowsSteps key steps l (set s.views id w))
-                (sym (word_read s.words (control_place e))) r.0,
+                (sym (set-get_or s.words (control_place e) 0)) r.0,
           ),
           (
             x.control,
@@ -328,7 +328,7 @@ module _ (key : Opening) (s : TableState ℕ View) (steps : List (ℕ × Step))
         ae wanted found in
         let still :
         get_or (set s.words (control_place e) found) (control_place line.entry) 0 ≡ found
-        = (λ i. get_or (word_read s.words (control_place e) i) (control_place (sym on i)) 0) in
+        = (λ i. get_or (set-get_or s.words (control_place e) 0 i) (control_place (sym on i)) 0) in
         let r =
         raise_shown key (Next (control_place e) found w) shown.0 shown.1 id n ns w
         (set_view s.views id v w at) (ap (λ (z : View). z.numbers) is ∙ mine) line k w' inside
@@ -341,7 +341,7 @@ module _ (key : Opening) (s : TableState ℕ View) (steps : List (ℕ × Step))
           (
             shown.0,
             subst (λ l. ShowsSteps key shown.0 (set s.words (control_place e) found) l)
-                (set_twice s.views id w w') r.0,
+                (set-set s.views id w w') r.0,
           ),
           r.1,
         )

@@ -107,15 +107,11 @@ data_else true words e n e' z other show = record {
       ∙ show.second;
 }
 
--- A word that is read stays.
-pub word_read : (words : List ℕ) (i : ℕ) → set words i (get_or words i 0) ≡ words
-word_read words i = set-get_or words i 0
-
 pub read_shows :
     (words : List ℕ) (i e : ℕ) (x : Entry)
     → WordsShow words e x
     → WordsShow (set words i (get_or words i 0)) e x
-read_shows words i e x show = subst (λ l. WordsShow l e x) (sym (word_read words i)) show
+read_shows words i e x show = subst (λ l. WordsShow l e x) (sym (set-get_or words i 0)) show
 
 pub data_found :
     (second : Bool) (words : List ℕ) (e : ℕ) (x : Entry)

@@ -3,7 +3,6 @@ use Rattle.std.proofs.Common.{◌≡◌, ℕ, refl, sym, ap, ◌∙◌, subst, a
 use Rattle.entry_model.specs.declared.receipt.Receipt.{Receipt}
 use Rattle.entry_model.specs.Fronts.{IsAhead}
 use Rattle.lock_core.specs.declared.control.Control.{Control}
-use Rattle.lock_core.specs.declared.phase.Phase.TheVariants.{Idle}
 use Rattle.lock_core.specs.declared.doing.Doing.{Doing}
 use Rattle.lock_core.specs.declared.step.Step.{Step}
 use Rattle.lock_core.specs.Words.{receipt}
@@ -11,8 +10,8 @@ use Rattle.entry_model.specs.declared.operation.Op.{Op}
 use Rattle.entry_model.specs.Receipt.{IsReceiptOf}
 use Rattle.entry_lock.specs.declared.rule.View.{View}
 use Rattle.entry_lock.specs.Layout.{Means, shut_bit}
-use Rattle.entry_lock.specs.StepViews.{view_with_step, view_in_phase, view_with_receipt, view_with_count}
-use Rattle.entry_lock.specs.PassChanges.{MadeReceipt, TellsLastStep}
+use Rattle.entry_lock.specs.StepViews.{view_with_step, view_with_receipt, view_with_count}
+use Rattle.entry_lock.specs.PassChanges.{MadeReceipt}
 use Rattle.entry_lock.proofs.Bits.{control_is}
 
 -- A step that is counted and makes a receipt.
@@ -55,18 +54,3 @@ receipt_by d e op r is entry same =
       entry = ap (λ (z : Receipt). z.entry) is ∙ o.entry ∙ entry;
       op = ap (λ (z : Receipt). z.op) is ∙ o.op ∙ same;
     }
-
--- A deciding step that finds another word than the one noted, and makes nothing.
-pub last_missed :
-    (v w : View) (step : Step) (e looked found : ℕ)
-    → w ≡ view_with_count (view_in_phase (view_with_step v step) Idle) e looked found
-    → TellsLastStep v w e (record { entry = e; looked = looked; found = found })
-last_missed v w step e looked found is =
-    subst (λ z. TellsLastStep v z e (record { entry = e; looked = looked; found = found })) (sym is)
-    (record {
-      entry = refl;
-      count = omega arith;
-      last = refl;
-      looked = refl;
-      found = refl;
-    })

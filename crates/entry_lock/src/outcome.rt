@@ -115,8 +115,8 @@ fn outcome_again(doing: &Doing) -> Outcome
     outcome_from(doing, before, replied)
 }
 
-/// The same by the control word that was found, which has valid and stamp of the noted one. Where
-/// it has its R and C too, nothing is computed again.
+/// What the operation does by the control word that was found, which has valid and stamp of the
+/// noted one. Where it has its R and C too, that is what is known, and isn't computed again.
 #[inline(always)]
 pub fn outcome_by(doing: &Doing, known: Outcome, found: Control) -> Outcome
     requires receipt { known.receipt ≡ receipt_of doing.now }

@@ -2,6 +2,7 @@
 -- behind the other.
 use Rattle.std.proofs.Common.{◌≡◌, ℕ, zero, suc, ◌+◌, ◌<◌, ◌≤◌, List, [], ◌∷◌, ◌++◌, Some, None, length, refl, ap, ◌∙◌, arith}
 use Rattle.std.specs.List.{AllByRecursion}
+use Rattle.std.proofs.lemmas.List.{length-append}
 use Rattle.hpte_fields.specs.TableSize.{entry_count}
 use Rattle.entry_model.specs.declared.operation.Op.{Op}
 use Rattle.entry_model.specs.Receipt.{IsNormal}
@@ -72,10 +73,6 @@ at_behind [] ds i j is = let e : j ≡ i = omega (arith, is) in ap (call_at ds) 
 at_behind (c ∷ cs) ds i zero is = absurd (omega (arith, is))
 at_behind (c ∷ cs) ds i (suc j) is = at_behind cs ds i j (omega (arith, is))
 
-both_length : (cs ds : List Call) → length (cs ++ ds) ≡ length cs + length ds
-both_length [] ds = omega arith
-both_length (c ∷ cs) ds = omega (arith, both_length cs ds)
-
 pub both_in :
     (order : ℕ) (cs ds : List Call)
     → AreCallsIn order cs
@@ -85,5 +82,5 @@ pub both_in :
 both_in order cs ds a b few = record {
   in_table = each_append _ cs ds a.in_table b.in_table;
   normal = each_append _ cs ds a.normal b.normal;
-  few = omega (arith, both_length cs ds, few);
+  few = omega (arith, length-append cs ds, few);
 }

@@ -21,3 +21,4 @@ pub mod Logged
 mod Rows
 pub mod Heights
 pub mod PlanBounds
+pub mod KeptWords

@@ -4,9 +4,9 @@ use Rattle.std.specs.Prelude.{◌≡◌, ℕ, ◌+◌, ◌<◌, ◌^◌, ◌⊎�
 use Rattle.std.proofs.Common.{arith, inl, inr, refl, ◌∙◌, ap, sym, subst}
 use Rattle.std.specs.Int.Bits.{and_zero_r}
 use Rattle.std.proofs.lemmas.Bool.{cond_both, false≢true}
+use Rattle.std.proofs.lemmas.Nat.{and_assoc}
 use Rattle.hpte_fields.specs.Fields.{protected_word}
 use Rattle.hpte_fields.proofs.KeptBits.{protected_keeps_rc}
-use Rattle.hpte_fields.proofs.Masks.{masks_join}
 use Rattle.storage_prot.specs.declared.want.Want.{Want}
 use Rattle.authority_mask.specs.declared.masks.Masks.{Masks}
 use Rattle.entry_model.specs.State.{State, empty_state, IsCanonicalState, OnlyRaisesBits}
@@ -235,7 +235,7 @@ changed_canonical :
     → IsCanonicalState (record next { stamp = s.stamp + 1 })
 changed_canonical s h (enters dword0 dword1 valid) =
     canonical_if_valid (record (entered_state dword0 dword1) { stamp = s.stamp + 1 }) refl
-    (masks_join dword1 0xFFFFFFFFFFFFFE7F 0x180 ∙ and_zero_r dword1)
+    (and_assoc 0x180 dword1 0xFFFFFFFFFFFFFE7F ∙ and_zero_r dword1)
 changed_canonical s h (removes test valid) =
     record {
       apart = refl;

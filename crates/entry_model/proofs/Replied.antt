@@ -105,56 +105,36 @@ refused a access change at worn valid =
       undecided = λ e. absurd (false≢true (sym e ∙ access));
     })
 
+-- What isn't an access, and answers with a change.
+is_change_by :
+    {s : State} {op : Op} {a : Answer}
+    → (s.stamp ≡ 0xFFFFFFFF → ⊥)
+    → is_access op ≡ false
+    → is_change a ≡ true
+    → is_at a ≡ false
+    → is_worn a ≡ false
+    → is_decided a ≡ false
+    → IsChange s op a
+is_change_by fresh access change at worn decided =
+    record {
+      access = access;
+      change = change;
+      no_at = at;
+      no_worn = worn;
+      undecided = decided;
+      fresh = fresh;
+    }
+
 is_change_of :
     (s : State) {op : Op} {a : Answer} {next : State}
     → (s.stamp ≡ 0xFFFFFFFF → ⊥)
     → Changes s op a next
     → IsChange s op a
-is_change_of s fresh (enters dword0 dword1 valid) =
-    record {
-      access = refl;
-      change = refl;
-      no_at = refl;
-      no_worn = refl;
-      undecided = refl;
-      fresh = fresh;
-    }
-is_change_of s fresh (removes test valid) =
-    record {
-      access = refl;
-      change = refl;
-      no_at = refl;
-      no_worn = refl;
-      undecided = refl;
-      fresh = fresh;
-    }
-is_change_of s fresh (protects test flags valid) =
-    record {
-      access = refl;
-      change = refl;
-      no_at = refl;
-      no_worn = refl;
-      undecided = refl;
-      fresh = fresh;
-    }
-is_change_of s fresh (clears_r valid) =
-    record {
-      access = refl;
-      change = refl;
-      no_at = refl;
-      no_worn = refl;
-      undecided = refl;
-      fresh = fresh;
-    }
-is_change_of s fresh (clears_c valid) =
-    record {
-      access = refl;
-      change = refl;
-      no_at = refl;
-      no_worn = refl;
-      undecided = refl;
-      fresh = fresh;
-    }
+is_change_of s fresh (enters dword0 dword1 valid) = is_change_by fresh refl refl refl refl refl
+is_change_of s fresh (removes test valid) = is_change_by fresh refl refl refl refl refl
+is_change_of s fresh (protects test flags valid) = is_change_by fresh refl refl refl refl refl
+is_change_of s fresh (clears_r valid) = is_change_by fresh refl refl refl refl refl
+is_change_of s fresh (clears_c valid) = is_change_by fresh refl refl refl refl refl
 
 change_replied :
     (s : State) {op : Op} (a : Answer) (next : State)

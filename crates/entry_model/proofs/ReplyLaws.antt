@@ -1,24 +1,12 @@
 -- The laws of replies that are stated by words of their own.
 use Rattle.std.proofs.Common.{◌≡◌, true, false, refl, sym, ◌∙◌}
 use Rattle.std.proofs.lemmas.Bool.{false≢true}
-use Rattle.entry_model.specs.State.{State, OnlyRaisesBits}
+use Rattle.entry_model.specs.State.{State}
 use Rattle.entry_model.specs.declared.operation.Answer.{Answer}
 use Rattle.entry_model.specs.declared.operation.Op.{Op}
 use Rattle.entry_model.specs.Reply.{reply_of}
 use Rattle.entry_model.specs.Receipt.{is_access}
-use Rattle.entry_model.proofs.OperationLaws.{access_further, access_still}
 use Rattle.entry_model.proofs.Replied.{Replied, replied, left, changed, accessed}
-
-pub only_raises : (s : State) (op : Op) → is_access op ≡ true → OnlyRaisesBits s (reply_of s op).1
-only_raises s op access = access_further s op access
-
-pub still_accesses :
-    (s t : State) (op : Op)
-    → is_access op ≡ true
-    → OnlyRaisesBits s t
-    → (reply_of s op).1 ≡ s
-    → ((reply_of t op).1 ≡ t) × ((reply_of t op).0 ≡ (reply_of s op).0)
-still_accesses s t op access more = access_still s t op access more
 
 pub empty_untouched :
     (s : State) (op : Op) → is_access op ≡ true → s.valid ≡ false → (reply_of s op).1 ≡ s

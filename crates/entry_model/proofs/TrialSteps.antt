@@ -1,8 +1,9 @@
 -- One step of a trial over entries that stand one behind the other.
 use Rattle.std.specs.Prelude.{map}
-use Rattle.std.proofs.Common.{◌≡◌, ℕ, List, [], ◌∷◌, ◌++◌, length, drop, Bool, true, false, Some, sym, ap, ◌∙◌, refl, append_assoc}
+use Rattle.std.proofs.Common.{◌≡◌, ℕ, ◌-◌, List, [], ◌∷◌, ◌++◌, length, drop, Bool, true, false, Some, sym, ap, ◌∙◌, refl, append_assoc, arith}
+use Rattle.std.proofs.lemmas.List.{length-append}
 use Rattle.std.proofs.Math.Seq.{drop-append_seam}
-use Rattle.std.specs.List.{range_with_len}
+use Rattle.std.specs.List.{range_with_len, slice_get}
 use Rattle.entry_model.specs.declared.operation.Op.{Op}
 use Rattle.entry_model.specs.declared.operation.Answer.{Answer}
 use Rattle.entry_model.specs.declared.receipt.Receipt.{Receipt}
@@ -44,3 +45,14 @@ behind-push old new r behind =
     ap (λ z. z ++ r ∷ []) behind
     ∙ append_assoc old (receipts_added old new) (r ∷ [])
     ∙ ap (λ z. old ++ z) (sym (added-push old new r behind))
+
+-- The one that was put there last.
+pub last_pushed :
+    (rs : List Receipt) (r : Receipt)
+    → slice_get (rs ++ r ∷ []) (length (rs ++ r ∷ []) - 1) ≡ Some r
+last_pushed rs r =
+    let at : length (rs ++ r ∷ []) - 1 ≡ length rs = omega (arith, length-append rs (r ∷ [])) in
+    ap (slice_get (rs ++ r ∷ [])) at ∙ seam rs where
+      seam : (qs : List Receipt) → slice_get (qs ++ r ∷ []) (length qs) ≡ Some r
+      seam [] = refl
+      seam (q ∷ qs) = seam qs

@@ -61,7 +61,7 @@ logical_back :
     (grant other : Grant) → meets_logical grant other ≡ false → meets_logical other grant ≡ false
 logical_back grant other apart = grind (arith, nat_tests, apart)
 
-machine_back :
+pub machine_back :
     (grant other : Grant) → meets_machine grant other ≡ false → meets_machine other grant ≡ false
 machine_back grant other apart = grind (arith, nat_tests, apart)
 

@@ -1,20 +1,21 @@
 -- Section by section: what explains a text begins with what explains its first section, which is
 -- one only.
 use Rattle.std.proofs.Common.{◌≡◌, ℕ, suc, ◌+◌, arith, List, [], ◌∷◌, ◌++◌, true, ap, sym, ◌∙◌, refl, subst, length, append_assoc}
+use Rattle.run_model.proofs.LineReceipts.{lines_append}
 use Rattle.trace_line.specs.declared.line.TraceLine.{TraceLine}
-use Rattle.trace_line.specs.Lines.{is_quiet}
+use Rattle.trace_line.specs.Lines.{is_quiet, AreOnProcessors}
 use Rattle.trace_read.specs.Trace.{AcceptedTrace}
 use Rattle.trace_reply.specs.declared.reply.Reply.{Reply}
 use Rattle.trace_reply.specs.Replies.{RepliedLine, IsOfKind, AreReplies, lines_with_replies}
 use Rattle.reply_text.specs.Text.{reply_text, text_from, text_of}
-use Rattle.run_model.specs.Quiet.{cut, cut_before, NoneQuiet, AreOnProcessors}
+use Rattle.run_model.specs.Quiet.{cut, cut_before, NoneQuiet}
 use Rattle.run_model.specs.AllStores.{AllStores, opening_all}
 use Rattle.run_model.specs.GoodRun.{IsGoodRun}
 use Rattle.history_check.specs.Verdict.{lines_to, trace_to, BeginsGood}
 use Rattle.history_check.specs.FoundSection.{lines_text}
 use Rattle.history_check.specs.FoundStores.{AreGoodOn, stores_behind, AreFound}
 use Rattle.history_check.proofs.GoodStores.{Parts, AllGood, next_stores, quiet_reply, parts_good, good_parts}
-use Rattle.history_check.proofs.Prefix.{with_rest, cut_at, lines_append, empty_good}
+use Rattle.history_check.proofs.Prefix.{with_rest, cut_at, empty_good}
 use Rattle.history_check.proofs.TextMarks.{cancel}
 use Rattle.history_check.proofs.ShortStores.{ArePlainStores}
 use Rattle.history_check.proofs.AtMostOneText.{text_is, section_told, twice_kinds}

@@ -3,14 +3,13 @@ use Rattle.std.specs.Prelude.{nat_eq}
 use Rattle.std.specs.List.{AllByRecursion, starts_with}
 use Rattle.std.specs.Cmp.Lexicographic.{same_text, other_text}
 use Rattle.std.proofs.Common.{◌≡◌, ℕ, ◌+◌, ◌<◌, ◌≤◌, List, [], ◌∷◌, ◌++◌, true, false, ap, sym, ◌∙◌, subst, length, take, drop, map, get_or}
-use Rattle.std.proofs.lemmas.List.{take_more, take-append-drop, length-map}
+use Rattle.std.proofs.lemmas.List.{take_more, take-append-drop, length-map, take_all}
 use Rattle.std.proofs.Math.Seq.{take-append_seam}
 use Rattle.entry_model.specs.State.{State}
 use Rattle.entry_model.specs.declared.receipt.Receipt.{Receipt}
 use Rattle.receipt_text.specs.Marks.{IsMark}
 use Rattle.receipt_text.specs.Receipts.{mark_of}
 use Rattle.history_check.specs.Replay.{before_each}
-use Rattle.history_check.proofs.ListedStates.{to_end}
 
 -- ---- receipts
 pub one_marked :
@@ -36,7 +35,7 @@ pub all_marked :
     → length rs ≤ i
     → AllByRecursion IsMark (map mark_of (take i rs))
     → AllByRecursion IsMark (map mark_of rs)
-all_marked rs i past h = subst (λ l. AllByRecursion IsMark (map mark_of l)) (to_end rs i past) h
+all_marked rs i past h = subst (λ l. AllByRecursion IsMark (map mark_of l)) (take_all i rs past) h
 
 pub as_many : (rs : List Receipt) (ss : List State) → before_each rs ≡ ss → length rs ≡ length ss
 as_many rs ss e = sym (length-map rs (λ (r : Receipt). r.before)) ∙ ap length e

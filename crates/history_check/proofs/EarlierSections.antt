@@ -1,5 +1,5 @@
 -- The fronts of a good run and of its text.
-use Rattle.std.proofs.Common.{◌≡◌, ℕ, zero, suc, ◌≤◌, ◌<◌, List, [], ◌∷◌, ◌++◌, true, false, ap, sym, ◌∙◌, refl, subst, ◌⊎◌, inl, inr, append_assoc, arith}
+use Rattle.std.proofs.Common.{◌≡◌, ℕ, zero, suc, ◌≤◌, ◌<◌, List, [], ◌∷◌, ◌++◌, true, false, ap, sym, ◌∙◌, refl, subst, ◌⊎◌, inl, inr, append_assoc, arith, append-nil}
 use Rattle.std.specs.Prelude.{if◌then◌else◌, nat_le}
 use Rattle.std.proofs.lemmas.Bool.{cases_Bool, cases_lt}
 use Rattle.trace_line.specs.declared.line.TraceLine.{TraceLine}
@@ -11,9 +11,8 @@ use Rattle.reply_text.specs.Text.{reply_text, text_from, text_of}
 use Rattle.run_model.specs.GoodRun.{IsGoodRun}
 use Rattle.history_check.specs.declared.verdict.Verdict.{Verdict}
 use Rattle.history_check.specs.declared.verdict.Verdict.TheVariants as verdicts
-use Rattle.history_check.specs.Verdict.{with_lines, lines_to, trace_to, section_count, BeginsGood, SectionStands, IsVerdict}
-use Rattle.history_check.proofs.TextMarks.{append_none}
-use Rattle.history_check.proofs.Prefix.{good_front}
+use Rattle.history_check.specs.Verdict.{lines_to, trace_to, section_count, BeginsGood, SectionStands, IsVerdict}
+use Rattle.history_check.proofs.Prefix.{good_front, with_lines}
 
 -- ---- replies up to a quiet line
 abbrev replies_to : ℕ → List TraceLine → List Reply → List Reply
@@ -196,7 +195,7 @@ good_verdict t rs g k low high = at (cases_Bool (nat_le k (section_count t))) wh
       (nat_le k (section_count t) ≡ true) ⊎ (nat_le k (section_count t) ≡ false)
       → SectionStands t (text_of t rs) k
   at (inl e) =
-      rw e (fronts_stand t (text_of t rs) k low (rs, [], g, sym (append_none (text_of t rs))))
+      rw e (fronts_stand t (text_of t rs) k low (rs, [], g, sym (append-nil (text_of t rs))))
   at (inr e) = rw e (rs, g, refl)
 
 one_bad :

@@ -14,7 +14,7 @@ use Rattle.entry_model.specs.History.{place, Regrouped, twice}
 use Rattle.entry_model.proofs.Regroup.{regrouped_back}
 use Rattle.run_model.specs.Histories.{receipts_by}
 use Rattle.run_model.specs.Stores.{states_of}
-use Rattle.run_model.specs.Sections.{Section, made_in}
+use Rattle.run_model.specs.Sections.{AreLegalTo, Section, made_in}
 use Rattle.run_model.proofs.LinesByProcessor.{file_listed}
 use Rattle.run_model.proofs.OneProcessor.{closing_size}
 use Rattle.run_model.proofs.SectionGood.{OnCpus, each_regrouped}
@@ -24,7 +24,7 @@ use Rattle.history_check.specs.PlacedSteps.{placed_step, FoundStep, with_states_
 use Rattle.history_check.proofs.ListedStates.{keys_rise, rise_by_keys}
 use Rattle.history_check.proofs.Permuted.{permuted, ascending_from}
 use Rattle.history_check.proofs.SectionFixed.{section_fixes, fixed_section}
-use Rattle.history_check.specs.FoundSection.{closing_of, IsLegalTo}
+use Rattle.history_check.specs.FoundSection.{closing_of}
 
 -- ---- exchanges, and a function of each element
 swap_map :
@@ -195,7 +195,7 @@ as_many rs ss e = e ∙ length-map rs placed_step
 pub section_finds :
     (s : Section) (listed b : List State)
     → OnCpus s
-    → IsLegalTo s (closing_of s)
+    → AreLegalTo s (closing_of s)
     → FindStates (states_of s.before) (map placed_step (receipts_by s.replied_lines)) listed b
     → (before_each (receipts_by s.replied_lines) ≡ listed) × (closing_of s ≡ b)
 unfolding states_in
@@ -233,7 +233,7 @@ pub found_section :
     → AreInTable (length (states_of s.before)) (map placed_step (receipts_by s.replied_lines))
     → FindStates (states_of s.before) (map placed_step (receipts_by s.replied_lines)) listed b
     → before_each (receipts_by s.replied_lines) ≡ listed
-    → IsLegalTo s (closing_of s) × (closing_of s ≡ b)
+    → AreLegalTo s (closing_of s) × (closing_of s ≡ b)
 unfolding states_in
 found_section s listed b cpus within h before =
     let rs = receipts_by s.replied_lines in

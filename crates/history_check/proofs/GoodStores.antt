@@ -3,7 +3,8 @@ use Rattle.std.specs.Prelude.{IfSome}
 use Rattle.std.proofs.Common.{true, ◌≡◌, ℕ, zero, suc, ◌≤◌, List, [], ◌∷◌, ap, sym, ◌∙◌, refl, subst, map, length, arith, Option, Some, None}
 use Rattle.std.specs.List.{AllByRecursion}
 use Rattle.std.proofs.lemmas.List.{length-replicate}
-use Rattle.tlb_model.specs.Processor.{Processor, new_processor}
+use Rattle.run_model.proofs.LowStampRuns.{processors_by_size}
+use Rattle.tlb_model.specs.Processor.{new_processor}
 use Rattle.trace_line.specs.declared.act.Act.{Act}
 use Rattle.trace_line.specs.Lines.{is_quiet}
 use Rattle.trace_read.specs.Configuration.{Configuration}
@@ -14,7 +15,7 @@ use Rattle.run_model.specs.AllStores.{WindowState, AllStores, as_store, all_stor
 use Rattle.run_model.specs.GoodRun.{IsGoodRun, IsGoodSection}
 use Rattle.run_model.specs.Quiet.{QuietPart, cut}
 use Rattle.run_model.specs.QuietLines.{run_quiet_line}
-use Rattle.run_model.specs.Sections.{section_end, states_behind, processors_after_lines, quiet_on, after_quiet}
+use Rattle.run_model.specs.Sections.{section_end, states_behind, quiet_on, after_quiet}
 use Rattle.run_model.specs.SideBySide.{part_on, left_by, AreGood}
 use Rattle.run_model.specs.SideBySide.{stores_behind as behind_all}
 use Rattle.run_model.specs.StoreNumbers.{store_at}
@@ -55,12 +56,6 @@ AllGood s ts (q ∷ qs) =
 pub closed_grants : (w : Store) (ts : List RepliedLine) → (section_end w ts).grants ≡ w.grants
 unfolding section_end
 closed_grants w ts = refl
-
-processors_by_size :
-    (c : ℕ) (ss : List Processor) (ts : List RepliedLine)
-    → length (processors_after_lines c ss ts) ≡ length ss
-processors_by_size c [] ts = refl
-processors_by_size c (s ∷ ss) ts = ap suc (processors_by_size (suc c) ss ts)
 
 pub closed_size :
     (w : Store) (ts : List RepliedLine) → length (section_end w ts).processors ≡ length w.processors
@@ -142,7 +137,7 @@ to_part :
     → IsGoodOn (opening_of s) ts
 unfolding section_end
 to_part s ts quiet h =
-    (record { in_table = h.legal.in_table; legal = h.legal.legal }, h.in_order, h.calls, h.accesses)
+    (h.legal, h.in_order, h.calls, h.accesses)
 
 from_part :
     (s : Store) (ts : List RepliedLine) (quiet : Option RepliedLine)
@@ -152,7 +147,7 @@ from_part :
 unfolding section_end
 from_part s ts quiet h q =
     record {
-      legal = record { in_table = h.0.in_table; legal = h.0.legal };
+      legal = h.0;
       in_order = h.1;
       calls = h.2;
       accesses = h.3;

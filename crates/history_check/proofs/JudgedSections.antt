@@ -6,8 +6,7 @@ use Rattle.std.proofs.lemmas.List.{length-append}
 use Rattle.std.proofs.lemmas.List.Sums.{sum_by-cons}
 use Rattle.std.proofs.lemmas.Bool.{cases_Bool, le-leb, leb-true, lt-leb}
 use Rattle.trace_line.specs.declared.line.TraceLine.{TraceLine}
-use Rattle.trace_line.specs.Lines.{is_quiet, most_lines}
-use Rattle.trace_read.specs.Counts.{quiet_count}
+use Rattle.trace_line.specs.Lines.{is_quiet, most_lines, AreOnProcessors, count_acts}
 use Rattle.trace_read.specs.Trace.{AcceptedTrace, IsAccepted}
 use Rattle.trace_reply.specs.declared.reply.Reply.{Reply}
 use Rattle.trace_reply.specs.Replies.{RepliedLine, IsOfKind, lines_with_replies}
@@ -20,7 +19,7 @@ use Rattle.basics.proofs.Each.{each_front, each_back}
 use Rattle.run_model.proofs.SerialGood.{quiet_kind, opening_processors}
 use Rattle.history_check.specs.declared.verdict.Verdict.TheVariants as verdicts
 use Rattle.history_check.specs.Verdict.{lines_to, trace_to, section_count, BeginsGood, IsGoodText, SectionStands, IsVerdict}
-use Rattle.run_model.specs.Quiet.{NoneQuiet, AreOnProcessors}
+use Rattle.run_model.specs.Quiet.{NoneQuiet}
 use Rattle.history_check.specs.FoundStores.{stores_behind, run_quiet_on, AreFound}
 use Rattle.history_check.proofs.EarlierSections.{fronts_stand}
 use Rattle.history_check.proofs.GoodStores.{next_size, good_parts}
@@ -48,35 +47,35 @@ lines_to_twice (suc j) (suc k) (l ∷ ls) low =
 quiet_counts :
     (l : TraceLine) (ls : List TraceLine)
     → is_quiet l.act ≡ true
-    → quiet_count (l ∷ ls) ≡ 1 + quiet_count ls
+    → count_acts is_quiet (l ∷ ls) ≡ 1 + count_acts is_quiet ls
 quiet_counts l ls q =
     sum_by-cons (λ (x : TraceLine). if is_quiet x.act then 1 else 0) l ls ∙ rw q refl
 
 quiet_skips :
     (l : TraceLine) (ls : List TraceLine)
     → is_quiet l.act ≡ false
-    → quiet_count (l ∷ ls) ≡ quiet_count ls
+    → count_acts is_quiet (l ∷ ls) ≡ count_acts is_quiet ls
 quiet_skips l ls q =
     sum_by-cons (λ (x : TraceLine). if is_quiet x.act then 1 else 0) l ls
-    ∙ rw q (zero-add (quiet_count ls))
+    ∙ rw q (zero-add (count_acts is_quiet ls))
 
 -- All, where they have no more quiet ones.
-lines_to_end : (k : ℕ) (ls : List TraceLine) → quiet_count ls ≤ k → lines_to (suc k) ls ≡ ls
+lines_to_end : (k : ℕ) (ls : List TraceLine) → count_acts is_quiet ls ≤ k → lines_to (suc k) ls ≡ ls
 lines_to_end k [] few = refl
 lines_to_end k (l ∷ ls) few =
     at k few (cases_Bool (is_quiet l.act)) (λ j less. lines_to_end j ls less) where
       at :
           (k : ℕ)
-          → quiet_count (l ∷ ls) ≤ k
+          → count_acts is_quiet (l ∷ ls) ≤ k
           → (is_quiet l.act ≡ true) ⊎ (is_quiet l.act ≡ false)
-          → ((j : ℕ) → quiet_count ls ≤ j → lines_to (suc j) ls ≡ ls)
+          → ((j : ℕ) → count_acts is_quiet ls ≤ j → lines_to (suc j) ls ≡ ls)
           → lines_to (suc k) (l ∷ ls) ≡ l ∷ ls
       at k h (inr q) more = rw q (ap (λ z. l ∷ z) (more k (omega (arith, h, quiet_skips l ls q))))
       at zero h (inl q) more = absurd (omega (arith, h, quiet_counts l ls q))
       at (suc k) h (inl q) more =
           rw q (ap (λ z. l ∷ z) (more k (omega (arith, h, quiet_counts l ls q))))
 
-quiet_plain_lines : (ms : List TraceLine) → NoneQuiet ms → quiet_count ms ≡ 0
+quiet_plain_lines : (ms : List TraceLine) → NoneQuiet ms → count_acts is_quiet ms ≡ 0
 quiet_plain_lines [] h = refl
 quiet_plain_lines (m ∷ ms) h = quiet_skips m ms h.0 ∙ quiet_plain_lines ms h.1
 
@@ -84,7 +83,7 @@ quiet_behind :
     (ms : List TraceLine) (l : TraceLine) (ns : List TraceLine)
     → NoneQuiet ms
     → is_quiet l.act ≡ true
-    → quiet_count (ms ++ l ∷ ns) ≡ 1 + quiet_count ns
+    → count_acts is_quiet (ms ++ l ∷ ns) ≡ 1 + count_acts is_quiet ns
 quiet_behind [] l ns h q = quiet_counts l ns q
 quiet_behind (m ∷ ms) l ns h q = quiet_skips m (ms ++ l ∷ ns) h.0 ∙ quiet_behind ms l ns h.1 q
 
@@ -126,7 +125,7 @@ pub record AtSection (t : AcceptedTrace) (text : List ℕ) (k : ℕ) (w : AllSto
   pub reached : Reaches t text k w ns y
   pub plain : ArePlainStores w
   pub cpus : AreOnProcessors (length w.table.processors) ns
-  pub count : k + quiet_count ns ≡ quiet_count t.lines
+  pub count : k + count_acts is_quiet ns ≡ count_acts is_quiet t.lines
   pub few : length ns ≤ most_lines
 
 pub at_first :
@@ -185,7 +184,7 @@ module _ (t : AcceptedTrace) (text : List ℕ) (k : ℕ) (w : AllStores) (ms : L
 
   few : k + 1 ≤ section_count t
   few = let one :
-      quiet_count (ms ++ l ∷ ns) ≡ 1 + quiet_count ns =
+      count_acts is_quiet (ms ++ l ∷ ns) ≡ 1 + count_acts is_quiet ns =
       quiet_behind ms l ns plain quiet in omega (arith, one, h.count)
 
   pub at_next :
@@ -267,7 +266,8 @@ module _ (t : AcceptedTrace) (text : List ℕ) (k : ℕ) (w : AllStores) (ms : L
 module _ (t : AcceptedTrace) (text : List ℕ) (k : ℕ) (w : AllStores) (ms : List TraceLine)
     (x : List ℕ) (h : AtSection t text k w ms x) (plain : NoneQuiet ms) where
   last : section_count t ≡ k + 1
-  last = let none : quiet_count ms ≡ 0 = quiet_plain_lines ms plain in omega (arith, none, h.count)
+  last = let none :
+      count_acts is_quiet ms ≡ 0 = quiet_plain_lines ms plain in omega (arith, none, h.count)
 
   -- What explains the whole text explains the rest, and the other way round.
   from_whole :
@@ -287,7 +287,7 @@ module _ (t : AcceptedTrace) (text : List ℕ) (k : ℕ) (w : AllStores) (ms : L
   all_lines : lines_to (k + 1) t.lines ≡ t.lines
   all_lines =
       let next : k + 1 ≡ suc k = omega arith in
-      let count : quiet_count t.lines ≤ k = omega (arith, last) in
+      let count : count_acts is_quiet t.lines ≤ k = omega (arith, last) in
       subst (λ n. lines_to n t.lines ≡ t.lines) (sym next) (lines_to_end k t.lines count)
 
   begins :

@@ -16,7 +16,7 @@ use Rattle.run_model.specs.Stores.{Store, states_of, is_on, is_on_window, lines_
 use Rattle.basics.proofs.Each.{each_passes}
 use Rattle.run_model.proofs.SectionGood.{closes}
 use Rattle.run_model.proofs.SectionChain.{closed_number}
-use Rattle.run_model.proofs.StoreNumbers.{window_at, table_changed, window_changed, window_others, lines_numbered}
+use Rattle.run_model.proofs.StoreNumbers.{window_at, table_changed, window_changed, window_others, lines_numbered, stays_so, stays_through}
 use Rattle.run_model.specs.Quiet.{NoneQuiet}
 use Rattle.history_check.specs.FoundSection.{Opening, opening_of, IsGoodOn, IsFound, HasSection, HasNoSection, TellsSection}
 use Rattle.history_check.specs.FoundStores.{windows_of, lines_at, AreFound, stores_behind}
@@ -43,7 +43,7 @@ none_on s number ls text none =
           record { kinds = tt; good = store_empty (opening_of (store_at s number)); text = refl };
       behind = λ on. none_left (store_at s number);
       others = λ other differ inside. refl;
-      stays = record { windows = refl; processors = refl; number = refl };
+      stays = stays_so s;
     })
 
 -- With the lines on the page table found, the first store is done.
@@ -196,7 +196,7 @@ pub below_none : (s : AllStores) (ls : List TraceLine) (text : List ℕ) → Fou
 below_none s ls text = record {
   parts = λ number low. absurd (omega (arith, low));
   others = λ number low inside. refl;
-  stays = record { windows = refl; processors = refl; number = refl };
+  stays = stays_so s;
 }
 
 pub below_more :
@@ -215,12 +215,7 @@ below_more s mid later k ls own text told n named inside lines words h f many = 
       λ number low within.
       next number (λ e. absurd (omega (arith, low, e))) within
       ∙ h.others number (omega (arith, low)) within;
-  stays =
-      record {
-        windows = f.stays.windows ∙ h.stays.windows;
-        processors = f.stays.processors ∙ h.stays.processors;
-        number = f.stays.number ∙ h.stays.number;
-      };
+  stays = stays_through s mid later h.stays f.stays;
 } where
   next :
       (number : ℕ)

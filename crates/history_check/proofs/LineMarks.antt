@@ -76,14 +76,8 @@ pub record IsLine (l : TraceLine) (r : Reply) : Type 0 where
   pub is_front : IsFront front
   pub text : reply_text l r ≡ (front ++ receipts_text (receipts_in r)) ++ 10 ∷ []
 
-hcall_ends :
-    (h a b c : List ℕ) → h ++ (((a ++ b) ++ c) ++ 10 ∷ []) ≡ ((h ++ (a ++ b)) ++ c) ++ 10 ∷ []
-hcall_ends h a b c =
-    sym (append_assoc h ((a ++ b) ++ c) (10 ∷ []))
-    ∙ ap (λ z. z ++ 10 ∷ []) (sym (append_assoc h (a ++ b) c))
-
-device_ends : (h a c : List ℕ) → h ++ ((a ++ c) ++ 10 ∷ []) ≡ ((h ++ a) ++ c) ++ 10 ∷ []
-device_ends h a c =
+line_ends : (h a c : List ℕ) → h ++ ((a ++ c) ++ 10 ∷ []) ≡ ((h ++ a) ++ c) ++ 10 ∷ []
+line_ends h a c =
     sym (append_assoc h (a ++ c) (10 ∷ [])) ∙ ap (λ z. z ++ 10 ∷ []) (sym (append_assoc h a c))
 
 -- A reply without receipts whose word says how it ended.
@@ -135,7 +129,7 @@ line_of l (replies.Hcall h) plain kind =
           (both_front (code_text (rc_code h.rc)) (flat_map word_text h.words)
           (code_front (rc_code h.rc)) (words_front h.words));
       text =
-          hcall_ends head (code_text (rc_code h.rc)) (flat_map word_text h.words)
+          line_ends head (code_text (rc_code h.rc) ++ flat_map word_text h.words)
           (receipts_text h.receipts);
     }
 line_of l (replies.Access r) plain kind =
@@ -147,7 +141,7 @@ line_of l (replies.Access r) plain kind =
           both_front head words (head_front l.number l.cpu (name_of l.act) (name_front l.act))
           (both_front (outcome_text r.outcome) (way_text r.by) (outcome_front r.outcome)
           (way_front r.by));
-      text = hcall_ends head (outcome_text r.outcome) (way_text r.by) (receipts_text r.receipts);
+      text = line_ends head (outcome_text r.outcome ++ way_text r.by) (receipts_text r.receipts);
     }
 line_of l (replies.Device r) plain kind =
     let head = head_text l.number l.cpu (name_of l.act) in
@@ -157,7 +151,7 @@ line_of l (replies.Device r) plain kind =
       is_front =
           both_front head words (head_front l.number l.cpu (name_of l.act) (name_front l.act))
           (device_front r.outcome);
-      text = device_ends head words (receipts_text r.receipts);
+      text = line_ends head words (receipts_text r.receipts);
     }
 line_of l (replies.Segment accepted) plain kind = segment_line l accepted
 line_of l replies.MaskSet plain kind =

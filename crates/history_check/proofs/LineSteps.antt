@@ -3,6 +3,8 @@ use Rattle.std.specs.List.{range_with_len}
 use Rattle.std.proofs.Common.{◌≡◌, ℕ, ◌*◌, ◌≤◌, List, [], ◌∷◌, Bool, true, false, ap, sym, ◌∙◌, refl, subst, ◌⊎◌, inl, inr, map, length, arith, Option, Some, None}
 use Rattle.std.proofs.lemmas.Bool.{cases_Bool}
 use Rattle.std.proofs.lemmas.List.{length-map}
+use Rattle.hpt_walk.proofs.Walks.{calls-length}
+use Rattle.call_plan.proofs.TrialCalls.{few_of}
 use Rattle.papr_codes.specs.Hcalls.{hcall_of}
 use Rattle.entry_model.specs.declared.operation.Answer.{Answer}
 use Rattle.entry_model.specs.declared.operation.Op.{Op}
@@ -99,23 +101,6 @@ same_placed goes act (c ∷ cs) (r ∷ rs) w h =
       at (inl q) go = go (rw q at h.1)
       at (inr q) go = none (rw q at h.1)
 
--- no more receipts than calls
-trial_few :
-    (goes : Answer → Bool) (cs : List Call) (rs : List Receipt)
-    → IsTrial goes cs rs
-    → length rs ≤ length cs
-trial_few goes [] [] h = omega arith
-trial_few goes [] (r ∷ rs) h = absurd h
-trial_few goes (c ∷ cs) [] h = absurd h
-trial_few goes (c ∷ cs) (r ∷ rs) h = at (cases_Bool (goes r.answer)) (trial_few goes cs rs) where
-  at :
-      (goes r.answer ≡ true) ⊎ (goes r.answer ≡ false)
-      → (IsTrial goes cs rs → length rs ≤ length cs)
-      → length (r ∷ rs) ≤ length (c ∷ cs)
-  at (inl q) go = let few : length rs ≤ length cs = go (rw q at h.1) in omega arith
-  at (inr q) go = let none :
-      rs ≡ [] = rw q at h.1 in let e : length rs ≡ 0 = ap length none in omega arith
-
 -- ---- accesses
 -- The line that asks this.
 abbrev asked : Request → Act
@@ -150,12 +135,6 @@ walk_keeps order seg a =
     (group_keeps a (access_op seg.page mode true)
     (range_with_len (group_of seg.page order true * 8) 8) refl)
 
-walk_few :
-    (order : ℕ) (seg : Segment) (a : Request)
-    → length (walk_calls order seg.page (mode_for seg a)) ≡ 16
-unfolding walk_calls
-walk_few order seg a = refl
-
 -- what is shown of the receipts of a line
 record Shows (act : Act) (rs : List Receipt) : Type 0 where
   pub steps : map placed_step rs ≡ map (placed_mark act) (map mark_of rs)
@@ -172,15 +151,15 @@ way_shows set seg a (Some line) (Some Hit) r h = record {
       (access_keeps a _ refl, tt) h.trial;
   few = let few :
       length r.receipts ≤ 1 =
-      trial_few is_no_match (hit_calls seg a line) r.receipts h.trial in omega arith;
+      few_of is_no_match (hit_calls seg a line) r.receipts h.trial in omega arith;
 }
 way_shows set seg a (Some line) (Some Walk) r h = record {
   steps =
       same_placed is_no_match (asked a) (walk_calls set.order seg.page (mode_for seg a)) r.receipts
       (walk_keeps set.order seg a) h.trial;
   few =
-      subst (λ n. length r.receipts ≤ n) (walk_few set.order seg a)
-      (trial_few is_no_match (walk_calls set.order seg.page (mode_for seg a)) r.receipts
+      subst (λ n. length r.receipts ≤ n) (calls-length set.order seg.page (mode_for seg a))
+      (few_of is_no_match (walk_calls set.order seg.page (mode_for seg a)) r.receipts
       h.trial);
 }
 way_shows set seg a None (Some Walk) r h = record {
@@ -188,8 +167,8 @@ way_shows set seg a None (Some Walk) r h = record {
       same_placed is_no_match (asked a) (walk_calls set.order seg.page (mode_for seg a)) r.receipts
       (walk_keeps set.order seg a) h.trial;
   few =
-      subst (λ n. length r.receipts ≤ n) (walk_few set.order seg a)
-      (trial_few is_no_match (walk_calls set.order seg.page (mode_for seg a)) r.receipts
+      subst (λ n. length r.receipts ≤ n) (calls-length set.order seg.page (mode_for seg a))
+      (few_of is_no_match (walk_calls set.order seg.page (mode_for seg a)) r.receipts
       h.trial);
 }
 way_shows set seg a None (Some Hit) r h = absurd h
@@ -229,7 +208,7 @@ device_shows grants ioba write act d (Some entry) none read h = record {
       ) h.trial;
   few = let few :
       length d.receipts ≤ 1 =
-      trial_few (λ answer. true) (call ops.Read entry ∷ []) d.receipts h.trial in omega arith;
+      few_of (λ answer. true) (call ops.Read entry ∷ []) d.receipts h.trial in omega arith;
 }
 
 -- ---- any line
@@ -276,7 +255,7 @@ line_shows context p (acts.Call number args spelt) (replies.Hcall h) n call acce
           inr
           (many h.receipts (length (ops_of cs))
           (subst (λ m. length h.receipts ≤ m) (sym (length-map cs (λ (c : Call). c.op)))
-          (trial_few (hcall_plan context (hcall_of number) args).goes_on cs h.receipts
+          (few_of (hcall_plan context (hcall_of number) args).goes_on cs h.receipts
           call.trial)));
     }
 line_shows context p (acts.Call number args spelt) (replies.Access r) n call access = absurd call

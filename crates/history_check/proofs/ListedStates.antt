@@ -2,7 +2,7 @@
 use Rattle.std.specs.Prelude.{IsPermutation}
 use Rattle.std.specs.List.{AllByRecursion, IsDistinct, range_with_len}
 use Rattle.std.specs.List.Sorted.{IsNonDecreasing, IsNonDecreasingBy}
-use Rattle.std.proofs.Common.{◌≡◌, ℕ, zero, suc, ◌+◌, ◌<◌, ◌≤◌, List, [], ◌∷◌, true, false, refl, ap, sym, ◌∙◌, subst, arith, length, length-set, map, get_or, get_or-set_same, get_or-set_other, set, ◌≢◌, eqb, drop, take, ◌⊎◌, inl, inr}
+use Rattle.std.proofs.Common.{◌≡◌, ℕ, zero, suc, ◌+◌, ◌<◌, ◌≤◌, List, [], ◌∷◌, true, false, refl, ap, sym, ◌∙◌, subst, arith, length, length-set, map, get_or, get_or-set_same, get_or-set_other, set, ◌≢◌, eqb, ◌⊎◌, inl, inr}
 use Rattle.std.proofs.lemmas.Bool.{cases_Bool, eqb-true, eq-eqb, false≢true}
 use Rattle.std.proofs.lemmas.List.{length-map, get_or-map}
 use Rattle.std.proofs.lemmas.List.FromFn.{length-range_with_len, fill_by_all}
@@ -73,23 +73,6 @@ rise_by_keys f xs up i j d le low =
     let keys : get_or (map f xs) i 0 ≤ get_or (map f xs) j 0 = up i j 0 le (omega arith) in
     subst (λ z. z ≤ f (get_or xs j d)) (get_or-map f xs i d 0 (omega arith))
     (subst (λ z. get_or (map f xs) i 0 ≤ z) (get_or-map f xs j d 0 low) keys)
-
--- ---- loops
-pub past_end : {X : Type 0} (xs : List X) (i : ℕ) → length xs ≤ i → drop i xs ≡ []
-past_end xs zero h = none_left xs h where
-  none_left : {X : Type 0} (xs : List X) → length xs ≤ 0 → xs ≡ []
-  none_left [] h = refl
-  none_left (x ∷ xs) h = absurd (omega arith)
-past_end [] (suc i) h = refl
-past_end (x ∷ xs) (suc i) h = past_end xs i (omega arith)
-
-pub to_end : {X : Type 0} (xs : List X) (i : ℕ) → length xs ≤ i → take i xs ≡ xs
-to_end [] i h = none i where
-  none : {X : Type 0} (i : ℕ) → take {A = X} i [] ≡ []
-  none zero = refl
-  none (suc i) = refl
-to_end (x ∷ xs) zero h = absurd (omega arith)
-to_end (x ∷ xs) (suc i) h = ap (λ l. x ∷ l) (to_end xs i (omega arith))
 
 -- ---- steps with the states that they find
 no_step : PlacedStep

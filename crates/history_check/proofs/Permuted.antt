@@ -1,8 +1,9 @@
 -- What a sort exchanges are the same receipts, listed in another order.
-use Rattle.std.proofs.Common.{◌≡◌, ℕ, zero, suc, ◌<◌, ◌≤◌, List, [], ◌∷◌, length, length-set, get_or, set, sym, ◌∙◌, refl, subst, arith}
+use Rattle.std.proofs.Common.{◌≡◌, ℕ, zero, suc, ◌<◌, ◌≤◌, List, [], ◌∷◌, length, get_or, set, sym, ◌∙◌, refl, subst, arith}
 use Rattle.std.specs.Prelude.{IsPermutation}
 use Rattle.std.specs.List.{swap, AllByRecursion}
 use Rattle.std.specs.List.Sorted.{apply_swaps, SwapsInRange, IsNonDecreasingBy}
+use Rattle.std.proofs.lemmas.List.Edits.{length-swap}
 use Rattle.entry_model.specs.declared.receipt.Receipt.{Receipt}
 use Rattle.entry_model.specs.History.{place, Regrouped, kept, swapped, twice}
 use Rattle.entry_model.proofs.Regroup.{regrouped_self}
@@ -36,12 +37,6 @@ swap_regroups :
 swap_regroups [] i j low high = absurd (omega arith)
 swap_regroups (d ∷ ys) i j low high = exchanged (d ∷ ys) i j d low high
 
-swap_length : (xs : List Receipt) (i j : ℕ) → length (swap xs i j) ≡ length xs
-swap_length [] i j = refl
-swap_length (d ∷ ys) i j =
-    length-set (set (d ∷ ys) i (get_or (d ∷ ys) j d)) j (get_or (d ∷ ys) i d)
-    ∙ length-set (d ∷ ys) i (get_or (d ∷ ys) j d)
-
 swaps_regroup :
     (xs : List Receipt) (ms : List (ℕ × ℕ))
     → SwapsInRange (length xs) ms
@@ -53,7 +48,7 @@ swaps_regroup xs (p ∷ ps) h =
       twice rest.0
           (swap_regroups ys p.0 p.1 (subst (λ n. p.0 < n) (sym rest.1) h.0)
           (subst (λ n. p.1 < n) (sym rest.1) h.1)),
-      swap_length ys p.0 p.1 ∙ rest.1,
+      length-swap ys p.0 p.1 ∙ rest.1,
     )
 
 pub permuted : (xs ys : List Receipt) → IsPermutation xs ys → Regrouped xs ys

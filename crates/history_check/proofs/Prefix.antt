@@ -1,6 +1,7 @@
 -- The replies of a good run up to a quiet line are a good run of the lines up to it.
 use Rattle.std.proofs.Common.{◌≡◌, List, [], ◌∷◌, ◌++◌, true, false, ap, sym, ◌∙◌, refl, subst, ◌⊎◌, inl, inr}
 use Rattle.std.proofs.lemmas.Bool.{cases_Bool}
+use Rattle.run_model.proofs.LineReceipts.{lines_append}
 use Rattle.trace_line.specs.declared.line.TraceLine.{TraceLine}
 use Rattle.trace_line.specs.Lines.{is_quiet}
 use Rattle.trace_read.specs.Trace.{AcceptedTrace}
@@ -12,7 +13,6 @@ use Rattle.run_model.specs.GoodRun.{IsGoodRun}
 use Rattle.run_model.specs.StoreNumbers.{store_at}
 use Rattle.history_check.specs.FoundSection.{opening_of}
 use Rattle.history_check.specs.FoundStores.{AreGoodOn}
-use Rattle.history_check.specs.Verdict.{with_lines}
 use Rattle.history_check.proofs.GoodStores.{Parts, AllGood, next_stores, store_empty, parts_good, good_parts}
 
 -- A run that is cut, with these further quiet lines, and the lines behind each, at its end.
@@ -50,17 +50,6 @@ parts_front s ts [] q us zs h = (h.0, h.1, empty_good (next_stores s ts q.line.a
 parts_front s ts (p ∷ qs) q us zs h =
     (h.0, h.1, parts_front (next_stores s ts p.0.line.act) p.1 qs q us zs h.2)
 
-pub lines_append :
-    (ls ms : List TraceLine) (rs qs : List Reply)
-    → AreReplies ls rs
-    → lines_with_replies (ls ++ ms) (rs ++ qs)
-    ≡ lines_with_replies ls rs ++ lines_with_replies ms qs
-lines_append [] ms [] qs h = refl
-lines_append [] ms (r ∷ rs) qs h = absurd h
-lines_append (l ∷ ls) ms [] qs h = absurd h
-lines_append (l ∷ ls) ms (r ∷ rs) qs h =
-    ap (λ ts. record { line = l; reply = r } ∷ ts) (lines_append ls ms rs qs h.1)
-
 replies_front :
     (ls : List TraceLine) (l : TraceLine) (ms : List TraceLine) (rs : List Reply) (r : Reply)
     (qs : List Reply)
@@ -71,6 +60,10 @@ replies_front [] l ms [] r qs h k = (k.0, tt)
 replies_front [] l ms (x ∷ rs) r qs h k = absurd h
 replies_front (x ∷ ls) l ms [] r qs h k = absurd h
 replies_front (x ∷ ls) l ms (y ∷ rs) r qs h k = (k.0, replies_front ls l ms rs r qs h.1 k.1)
+
+-- The trace with these lines in place of its own.
+abbrev pub with_lines : AcceptedTrace → List TraceLine → AcceptedTrace
+with_lines t lines = record t { lines = lines }
 
 pub good_front :
     (t : AcceptedTrace) (ls : List TraceLine) (l : TraceLine) (ms : List TraceLine)

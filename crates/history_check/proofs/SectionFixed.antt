@@ -8,20 +8,20 @@ use Rattle.entry_model.specs.Run.{state_at, IsRun}
 use Rattle.entry_model.proofs.Runs.{run-length}
 use Rattle.entry_model.specs.History.{IsLegal, history, place, pair_of, Regrouped}
 use Rattle.run_model.specs.Stores.{states_of}
-use Rattle.run_model.specs.Sections.{Section, made_in}
+use Rattle.run_model.specs.Sections.{AreLegalTo, Section, made_in}
 use Rattle.run_model.proofs.SectionGood.{closing_is, each_regrouped}
 use Rattle.receipt_text.specs.Receipts.{mark_of}
 use Rattle.history_check.specs.Replay.{before_each}
 use Rattle.history_check.specs.Steps.{step_op, is_unchanged, place_by, step_of, found_states, ending_states}
 use Rattle.history_check.proofs.Alike.{is_store_access, flag_of}
 use Rattle.history_check.proofs.Serialized.{Ascending, sorted_run, run_legal, run_fixes, fixed_run}
-use Rattle.history_check.specs.FoundSection.{closing_of, IsLegalTo}
+use Rattle.history_check.specs.FoundSection.{closing_of}
 
 -- ---- a section
 pub section_fixes :
     (s : Section) (closing : List State) (ms : List Receipt)
     → length closing ≡ length (states_of s.before)
-    → IsLegalTo s closing
+    → AreLegalTo s closing
     → Regrouped (made_in s) ms
     → Ascending ms
     → (before_each ms ≡ found_states (states_of s.before) (map step_of ms))
@@ -35,7 +35,7 @@ pub fixed_section :
     → Regrouped ms (made_in s)
     → AllByRecursion (λ (r : Receipt). r.entry < length (states_of s.before)) ms
     → before_each ms ≡ found_states (states_of s.before) (map step_of ms)
-    → IsLegalTo s (closing_of s)
+    → AreLegalTo s (closing_of s)
     × (closing_of s ≡ ending_states (states_of s.before) (map step_of ms))
 fixed_section s ms same within found =
     let a = states_of s.before in

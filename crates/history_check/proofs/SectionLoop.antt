@@ -1,7 +1,6 @@
 -- The loop over the lines of a section.
-use Rattle.std.specs.List.{AllByRecursion}
-use Rattle.std.proofs.Common.{◌≡◌, ℕ, zero, suc, ◌+◌, ◌-◌, ◌<◌, ◌≤◌, List, [], ◌∷◌, ◌++◌, false, ap, sym, ◌∙◌, refl, subst, append_assoc, arith, length, take, drop, get_or, Option, Some, None}
-use Rattle.std.proofs.lemmas.List.{drop_more, drop-drop, length-drop}
+use Rattle.std.proofs.Common.{◌≡◌, ℕ, ◌+◌, ◌-◌, ◌<◌, ◌≤◌, List, [], ◌∷◌, ◌++◌, false, ap, sym, ◌∙◌, refl, subst, append_assoc, arith, length, take, drop, get_or, Option, Some, None}
+use Rattle.std.proofs.lemmas.List.{drop_more, drop-drop, length-drop, drop_all}
 use Rattle.entry_model.specs.State.{State}
 use Rattle.run_model.specs.StoreContexts.{StoreContext}
 use Rattle.tlb_model.specs.Processor.{Processor}
@@ -16,18 +15,7 @@ use Rattle.history_check.specs.FoundSection.{lines_text}
 use Rattle.history_check.specs.FrontKeeping.{AllLeadTo}
 use Rattle.history_check.specs.LineReply.{StandsOn, HasReply}
 use Rattle.history_check.specs.JudgedLines.{Judged, judged, AreReplied, TellsLine, TellsLines}
-use Rattle.history_check.proofs.ListedStates.{past_end}
 use Rattle.history_check.proofs.SectionSteps.{IsLeft, more_on, more_back, first_order}
-
--- a fact of each line is one of the line at an index
-pub line_at :
-    (P : TraceLine → Type 0) (ls : List TraceLine) (i : ℕ) (d : TraceLine)
-    → i < length ls
-    → AllByRecursion P ls
-    → P (get_or ls i d)
-line_at P [] i d low h = absurd (omega arith)
-line_at P (l ∷ ls) zero d low h = h.0
-line_at P (l ∷ ls) (suc i) d low h = line_at P ls i d (omega arith) h.1
 
 -- ---- the text behind the replies
 pub text_first : (given : List ℕ) → given ≡ drop (length given - length given) given
@@ -248,8 +236,8 @@ module _ (context : StoreContext) (closing : List State) (ls : List TraceLine) (
       → TellsLines (judged context closing ls ns found) ps F given
       (Some (length given - length text)) qs
   end_left past past' none within cut =
-      let e = past_end ls i past in
-      let f = past_end ns i past' in
+      let e = drop_all i ls past in
+      let f = drop_all i ns past' in
       let here : AreReplied (judged context closing [] [] states) qs G text [] text qs = record {
         stand = none;
         in_order = λ cpu e. tt;
@@ -276,8 +264,8 @@ module _ (context : StoreContext) (closing : List State) (ls : List TraceLine) (
       → (states ≡ [] → ⊥)
       → TellsLines (judged context closing ls ns found) ps F given None later
   over_left later past past' some rs rest behind z =
-      let e = past_end ls i past in
-      let f = past_end ns i past' in
+      let e = drop_all i ls past in
+      let f = drop_all i ns past' in
       let k = left.back rs rest behind z in
       some
       (over context closing states qs G text k.0 rest behind

@@ -10,7 +10,8 @@ use Rattle.trace_reply.specs.declared.reply.Reply.{Reply}
 use Rattle.history_check.specs.declared.mark_steps.LineStep.{LineStep}
 use Rattle.history_check.specs.PlacedSteps.{PlacedStep, FindStates}
 use Rattle.history_check.specs.OrderedSteps.{numbered, numbered_by}
-use Rattle.run_model.specs.Quiet.{NoneQuiet, AreOnProcessors}
+use Rattle.trace_line.specs.Lines.{AreOnProcessors}
+use Rattle.run_model.specs.Quiet.{NoneQuiet}
 use Rattle.history_check.specs.FoundSection.{Opening, HasSection, HasNoSection, TellsSection}
 use Rattle.history_check.specs.JudgedLines.{judged, AreReplied, TellsLines}
 use Rattle.history_check.specs.SectionMarks.{ReadMarks, NoMarks}

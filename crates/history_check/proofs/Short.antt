@@ -28,7 +28,7 @@ use Rattle.trace_reply.specs.Replies.{RepliedLine, receipts_in}
 use Rattle.run_model.specs.Stores.{Store, states_of, page_table}
 use Rattle.run_model.specs.QuietLines.{run_resize, run_quiet_line}
 use Rattle.run_model.specs.Histories.{receipts_by}
-use Rattle.run_model.specs.Sections.{section_end}
+use Rattle.run_model.specs.Sections.{AreLegalTo, section_end}
 use Rattle.run_model.specs.Sections.{Section, made_in}
 use Rattle.basics.proofs.Each.{each_map, each_at, each_both, each_of_map, each_front, each_back}
 use Rattle.run_model.proofs.Memories.{IsAllowed, MemoryStands, memory_prepared, memory_committed, opening_stands}
@@ -39,7 +39,7 @@ use Rattle.run_model.proofs.OneProcessor.{closing_size}
 use Rattle.run_model.proofs.SectionGood.{OnCpus, each_regrouped}
 use Rattle.entry_model.proofs.Regroup.{regrouped_back}
 use Rattle.history_check.proofs.TextMarks.{IsShort, AreShort}
-use Rattle.history_check.specs.FoundSection.{closing_of, IsLegalTo}
+use Rattle.history_check.specs.FoundSection.{closing_of}
 
 -- The state's stamp fits in 32 bits.
 abbrev pub IsLow : State → Type 0
@@ -79,7 +79,7 @@ pub section_low :
     → length closing ≡ length (states_of s.before)
     → length (states_of s.before) ≤ entry_count greatest_order
     → LowStates (states_of s.before)
-    → IsLegalTo s closing
+    → AreLegalTo s closing
     → AreShort (made_in s) × LowStates closing
 section_low s closing size few low g =
     let n = length (states_of s.before) in
@@ -140,7 +140,7 @@ pub lines_short :
     → OnCpus s
     → length (states_of s.before) ≤ entry_count greatest_order
     → LowStates (states_of s.before)
-    → IsLegalTo s (closing_of s)
+    → AreLegalTo s (closing_of s)
     → ShortLines s.replied_lines
 lines_short s within few low g =
     short_lines s.replied_lines

@@ -8,31 +8,22 @@ use Rattle.trace_line.specs.declared.act.Act.{Act}
 use Rattle.trace_read.specs.Trace.{AcceptedTrace, IsAccepted}
 use Rattle.trace_reply.specs.Replies.{RepliedLine, receipts_in}
 use Rattle.run_model.specs.AllStores.{WindowState, AllStores, opened, as_store, opening_all}
-use Rattle.run_model.specs.Sections.{Section, made_in, states_behind}
+use Rattle.run_model.specs.Sections.{AreLegalTo, Section, made_in, states_behind}
 use Rattle.run_model.specs.StoreNumbers.{store_at}
 use Rattle.run_model.specs.Stores.{Store, is_on, is_on_window, opening_window, lines_on, states_of}
-use Rattle.basics.proofs.Each.{each_filter, each_replicate, each_of_map}
+use Rattle.basics.proofs.Each.{each_filter, each_replicate, each_of_map, each_within}
 use Rattle.run_model.proofs.LinesByProcessor.{Cpus}
 use Rattle.run_model.proofs.OneProcessor.{closing_size}
 use Rattle.run_model.proofs.SectionGood.{OnCpus}
 use Rattle.run_model.proofs.StoreNumbers.{window_at}
 use Rattle.run_model.proofs.StoreSerial.{opening_size}
 use Rattle.run_model.proofs.TableNamed.{quiet_window, closed_window}
-use Rattle.history_check.specs.FoundSection.{opening_of, section_on, closing_of, IsLegalTo}
+use Rattle.history_check.specs.FoundSection.{opening_of, section_on, closing_of}
 use Rattle.history_check.specs.FoundStores.{windows_of, lines_at, AreGoodOn, stores_behind, run_quiet_on}
 use Rattle.history_check.proofs.ByStore.{each_by_store}
 use Rattle.history_check.proofs.GoodStores.{closed_states, each_size, opening_named}
 use Rattle.history_check.proofs.Short.{IsLow, LowStates, IsPlain, ShortLines, small_table, section_low, closed_plain, lines_short, quiet_plain, opening_plain}
 use Rattle.history_check.proofs.TextMarks.{AreShort}
-
-each_inside :
-    {A : Type 0} (P : A → Type 0) (xs : List A) (k : ℕ) (d : A)
-    → k < length xs
-    → AllByRecursion P xs
-    → P (get_or xs k d)
-each_inside P [] k d low h = absurd (omega (arith, low))
-each_inside P (x ∷ xs) zero d low h = h.0
-each_inside P (x ∷ xs) (suc k) d low h = each_inside P xs k d (omega (arith, low)) h.1
 
 -- A store of no more entries than the largest table has, with low stamps.
 pub record IsSmall (states : List State) : Type 0 where
@@ -49,7 +40,7 @@ section_small :
     (s : Section)
     → OnCpus s
     → IsSmall (states_of s.before)
-    → IsLegalTo s (closing_of s)
+    → AreLegalTo s (closing_of s)
     → ShortLines s.replied_lines × IsSmall (closing_of s)
 section_small s within h g =
     let size : length (closing_of s) ≡ length (states_of s.before) = closing_size
@@ -69,8 +60,8 @@ module _ (s : AllStores) (ts : List RepliedLine) (within : Cpus (length s.table.
       let w = window_at s.table s.windows k (omega (arith, low)) in
       subst (λ (x : Store). IsSmall (states_of x)) (sym (w.store s.table))
       (subst (λ (v : WindowState). IsSmall v.states) (w.state w.window)
-      (each_inside (λ (v : WindowState). IsSmall v.states) s.windows k w.window
-      (omega (arith, low)) h.windows))
+      (each_within (λ (v : WindowState). IsSmall v.states) s.windows k w.window h.windows
+      (omega (arith, low))))
 
   -- The section of each store.
   each_small :

@@ -1,5 +1,5 @@
 -- The text of a line fixes its marks and its way.
-use Rattle.std.proofs.Common.{◌≡◌, ℕ, ℤ, ◌<◌, ◌+◌, ◌^◌, List, [], ◌∷◌, ◌++◌, Bool, true, false, ap, sym, ◌∙◌, refl, subst, inl, inr, map, arith, Option, Some, None, append_assoc, pos, negsuc, suc}
+use Rattle.std.proofs.Common.{◌≡◌, ℕ, ℤ, ◌<◌, ◌+◌, ◌^◌, List, [], ◌∷◌, ◌++◌, Bool, true, false, ap, sym, ◌∙◌, refl, subst, inl, inr, map, arith, Option, Some, None, append_assoc, pos, negsuc, suc, append-nil}
 use Rattle.std.specs.Prelude.{if◌then◌else◌, ◌==◌, codes}
 use Rattle.std.specs.List.{AllByRecursion, flat_map}
 use Rattle.std.specs.Fmt.{digits, signed_decimal}
@@ -79,14 +79,10 @@ unspaced (x ∷ a) (y ∷ b) e =
     let m : a ≡ b = unspaced a b rest in
     λ i. head i ∷ m i
 
-pub append_none : (a : List ℕ) → a ++ [] ≡ a
-append_none [] = refl
-append_none (x ∷ a) = ap (λ z. x ∷ z) (append_none a)
-
 bar_stands : (a b z : List ℕ) → lacks 124 a ≡ true → a ++ [] ≡ b ++ 32 ∷ 124 ∷ z → ⊥
 bar_stands a b z h e =
     let m : lacks 124 (b ++ 32 ∷ 124 ∷ z) ≡ true = subst (λ l. lacks 124 l ≡ true)
-    (sym (append_none a) ∙ e) h in
+    (sym (append-nil a) ∙ e) h in
     false≢true (lacks_back 124 b (32 ∷ 124 ∷ z) m)
 
 fronts_and_marks :
@@ -97,7 +93,7 @@ fronts_and_marks :
     → AreShort qs
     → a ++ receipts_text rs ≡ b ++ receipts_text qs
     → (a ≡ b) × (map mark_of rs ≡ map mark_of qs)
-fronts_and_marks a b [] [] f g h k e = (sym (append_none a) ∙ e ∙ append_none b, refl)
+fronts_and_marks a b [] [] f g h k e = (sym (append-nil a) ∙ e ∙ append-nil b, refl)
 fronts_and_marks a b [] (q ∷ qs) f g h k e =
     absurd (bar_stands a b (flat_map receipt_text (q ∷ qs)) f.no_bar e)
 fronts_and_marks a b (r ∷ rs) [] f g h k e =
@@ -131,11 +127,8 @@ line_parts a b rs qs x y f g h k e =
     let m = fronts_and_marks a b rs qs f g h k c.0 in
     (m.0, m.1, c.1)
 
-joined : (a b c x : List ℕ) → (((a ++ b) ++ c) ++ 10 ∷ []) ++ x ≡ (a ++ b) ++ (c ++ 10 ∷ x)
-joined a b c x = append_assoc ((a ++ b) ++ c) (10 ∷ []) x ∙ append_assoc (a ++ b) c (10 ∷ x)
-
-one_joined : (a c x : List ℕ) → ((a ++ c) ++ 10 ∷ []) ++ x ≡ a ++ (c ++ 10 ∷ x)
-one_joined a c x = append_assoc (a ++ c) (10 ∷ []) x ∙ append_assoc a c (10 ∷ x)
+line_joined : (a c x : List ℕ) → ((a ++ c) ++ 10 ∷ []) ++ x ≡ a ++ (c ++ 10 ∷ x)
+line_joined a c x = append_assoc (a ++ c) (10 ∷ []) x ∙ append_assoc a c (10 ∷ x)
 
 -- ---- hypervisor calls
 signed_lacks : (c : ℕ) (z : ℤ) → IsNoDigit c → (45 == c) ≡ false → lacks c (signed_decimal z) ≡ true
@@ -184,10 +177,11 @@ hcall_shows h k x y s t e =
     (both_front (code_text (rc_code k.rc)) (flat_map word_text k.words)
     (code_front (rc_code k.rc)) (words_front k.words)) s t
     (sym
-    (joined (code_text (rc_code h.rc)) (flat_map word_text h.words)
-    (receipts_text h.receipts) x)
+    (line_joined (code_text (rc_code h.rc) ++ flat_map word_text h.words) (receipts_text h.receipts)
+    x)
     ∙ e
-    ∙ joined (code_text (rc_code k.rc)) (flat_map word_text k.words) (receipts_text k.receipts)
+    ∙ line_joined (code_text (rc_code k.rc) ++ flat_map word_text k.words)
+    (receipts_text k.receipts)
     y) in
     (m.1, m.2)
 
@@ -244,9 +238,9 @@ access_shows r q x y s t e =
     (way_front r.by))
     (both_front (outcome_text q.outcome) (way_text q.by) (outcome_front q.outcome)
     (way_front q.by)) s t
-    (sym (joined (outcome_text r.outcome) (way_text r.by) (receipts_text r.receipts) x)
+    (sym (line_joined (outcome_text r.outcome ++ way_text r.by) (receipts_text r.receipts) x)
     ∙ e
-    ∙ joined (outcome_text q.outcome) (way_text q.by) (receipts_text q.receipts) y) in
+    ∙ line_joined (outcome_text q.outcome ++ way_text q.by) (receipts_text q.receipts) y) in
     (ways_same (outcome_text r.outcome) (outcome_text q.outcome) r.by q.by m.0, m.1, m.2)
 
 -- ---- accesses of devices
@@ -273,9 +267,9 @@ device_shows :
 device_shows r q x y s t e =
     let m = line_parts (device_outcome_text r.outcome) (device_outcome_text q.outcome) r.receipts
     q.receipts x y (device_front r.outcome) (device_front q.outcome) s t
-    (sym (one_joined (device_outcome_text r.outcome) (receipts_text r.receipts) x)
+    (sym (line_joined (device_outcome_text r.outcome) (receipts_text r.receipts) x)
     ∙ e
-    ∙ one_joined (device_outcome_text q.outcome) (receipts_text q.receipts) y) in
+    ∙ line_joined (device_outcome_text q.outcome) (receipts_text q.receipts) y) in
     (m.1, m.2)
 
 segment_shows : (a b : Bool) (x y : List ℕ) → verdict_text a ++ x ≡ verdict_text b ++ y → x ≡ y

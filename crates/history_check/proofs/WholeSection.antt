@@ -29,7 +29,8 @@ use Rattle.history_check.specs.ReplyMarks.{marks_in}
 use Rattle.history_check.specs.Replay.{before_each}
 use Rattle.history_check.specs.PlacedSteps.{PlacedStep, placed_step, placed_line, FindStates, AreInTable}
 use Rattle.history_check.specs.OrderedSteps.{numbered, numbered_by}
-use Rattle.run_model.specs.Quiet.{NoneQuiet, AreOnProcessors}
+use Rattle.trace_line.specs.Lines.{AreOnProcessors}
+use Rattle.run_model.specs.Quiet.{NoneQuiet}
 use Rattle.history_check.specs.FoundSection.{Opening, section_on, IsFound, HasSection, HasNoSection, closing_of}
 use Rattle.history_check.specs.LineReply.{StandsOn}
 use Rattle.history_check.specs.JudgedLines.{AllStand, AllInOrder, AreReplied, judged}

@@ -1,17 +1,13 @@
 -- One section of a run, found where a text begins.
-use Rattle.std.specs.Prelude.{◌≡◌, ℕ, ◌<◌, ◌≤◌, Option, Some, None, List, [], ◌∷◌, ◌++◌, drop, length}
-use Rattle.std.specs.List.{AllByRecursion}
+use Rattle.std.specs.Prelude.{◌≡◌, ℕ, ◌≤◌, Option, Some, None, List, [], ◌∷◌, ◌++◌, drop, length}
 use Rattle.entry_model.specs.State.{State}
 use Rattle.tlb_model.specs.Processor.{Processor}
 use Rattle.trace_line.specs.declared.line.TraceLine.{TraceLine}
 use Rattle.trace_reply.specs.declared.reply.Reply.{Reply}
 use Rattle.trace_reply.specs.Replies.{RepliedLine, AreReplies, lines_with_replies}
 use Rattle.reply_text.specs.Text.{reply_text}
-use Rattle.entry_model.specs.declared.receipt.Receipt.{Receipt}
-use Rattle.entry_model.specs.History.{IsLegal, history}
-use Rattle.entry_model.specs.Run.{state_at}
 use Rattle.run_model.specs.GoodRun.{EachLine, IsAccessLine, AreInOrder, CallsAreReplied}
-use Rattle.run_model.specs.Sections.{Section, made_in, processors_after_lines, states_behind}
+use Rattle.run_model.specs.Sections.{Section, AreLegalTo, processors_after_lines, states_behind}
 use Rattle.run_model.specs.StoreContexts.{StoreContext, access_of}
 use Rattle.run_model.specs.Stores.{Store, context_of, states_of, plain_store}
 
@@ -48,21 +44,10 @@ section_on o ts = record {
 abbrev pub closing_of : Section → List State
 closing_of s = states_behind s.before s.replied_lines
 
--- A section's receipts are legal where it closes on these states.
-pub record IsLegalTo (s : Section) (closing : List State) : Type 0 where
-  pub in_table : AllByRecursion (λ (r : Receipt). r.entry < length (states_of s.before)) (made_in s)
-  pub legal :
-      (entry : ℕ)
-      → entry < length (states_of s.before)
-      → IsLegal
-      (state_at (states_of s.before) entry)
-      (history entry (made_in s))
-      (state_at closing entry)
-
 -- The section is good where it closes on these states.
 abbrev pub IsGoodTo : Section → List State → Type 0
 IsGoodTo s closing =
-    IsLegalTo s closing
+    AreLegalTo s closing
     × AreInOrder s
     × CallsAreReplied s
     × EachLine (IsAccessLine (access_of (context_of s.before)) closing) s
@@ -75,10 +60,10 @@ IsGoodPart s = IsGoodTo s (closing_of s)
 abbrev pub IsGoodOn : Opening → List RepliedLine → Type 0
 IsGoodOn o ts = IsGoodPart (section_on o ts)
 
--- With these replies the lines are a good section of a store, and their text stands first in the
+-- With these replies the lines are good, in the sense given, and their text stands first in the
 -- given one, before the rest.
-pub record IsFound
-    (o : Opening)
+pub record AreFoundGood
+    (Good : List RepliedLine → Type 0)
     (ls : List TraceLine)
     (given : List ℕ)
     (rs : List Reply)
@@ -86,8 +71,12 @@ pub record IsFound
     : Type 0
   where
     pub kinds : AreReplies ls rs
-    pub good : IsGoodOn o (lines_with_replies ls rs)
+    pub good : Good (lines_with_replies ls rs)
     pub text : given ≡ lines_text (lines_with_replies ls rs) ++ rest
+
+-- They are found as a good section of a store.
+abbrev pub IsFound : Opening → List TraceLine → List ℕ → List Reply → List ℕ → Type 0
+IsFound o = AreFoundGood (IsGoodOn o)
 
 -- The lines have good replies, whose text is what stands before the last part of the text; the
 -- section closes on these states and processors.

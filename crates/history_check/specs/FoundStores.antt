@@ -1,16 +1,16 @@
 -- The lines of a section on all stores of a run, and where a text begins with good replies to them.
-use Rattle.std.specs.Prelude.{◌≡◌, ℕ, ◌≤◌, List, ◌++◌, map, length}
+use Rattle.std.specs.Prelude.{ℕ, ◌≤◌, List, map, length}
 use Rattle.bus_window.specs.Windows.{BusWindow}
 use Rattle.trace_line.specs.declared.act.Act.{Act}
 use Rattle.trace_line.specs.declared.line.TraceLine.{TraceLine}
 use Rattle.trace_reply.specs.declared.reply.Reply.{Reply}
-use Rattle.trace_reply.specs.Replies.{RepliedLine, AreReplies, lines_with_replies}
+use Rattle.trace_reply.specs.Replies.{RepliedLine}
 use Rattle.run_model.specs.AllStores.{WindowState, AllStores, as_store, windows_in}
 use Rattle.run_model.specs.QuietLines.{run_quiet_line}
 use Rattle.run_model.specs.Sections.{section_end, states_behind}
 use Rattle.run_model.specs.StoreNumbers.{store_at}
 use Rattle.run_model.specs.Stores.{lines_on, is_on, is_on_window}
-use Rattle.history_check.specs.FoundSection.{lines_text, opening_of, IsGoodOn}
+use Rattle.history_check.specs.FoundSection.{opening_of, IsGoodOn, AreFoundGood}
 
 -- ---- the stores
 -- The windows of a run.
@@ -46,16 +46,6 @@ abbrev pub run_quiet_on : AllStores → Act → Reply × AllStores
 run_quiet_on s act = let x = run_quiet_line s.table act in (x.0, record s { table = x.1 })
 
 -- ---- a section and a text
--- With these replies the lines are a good section of a run that is so far, and their text stands
--- first in the given one, before the rest.
-pub record AreFound
-    (s : AllStores)
-    (ls : List TraceLine)
-    (given : List ℕ)
-    (rs : List Reply)
-    (rest : List ℕ)
-    : Type 0
-  where
-    pub kinds : AreReplies ls rs
-    pub good : AreGoodOn s (lines_with_replies ls rs)
-    pub text : given ≡ lines_text (lines_with_replies ls rs) ++ rest
+-- With these replies the lines are found as a good section of a run that is so far.
+abbrev pub AreFound : AllStores → List TraceLine → List ℕ → List Reply → List ℕ → Type 0
+AreFound s = AreFoundGood (AreGoodOn s)

@@ -10,10 +10,6 @@ use Rattle.history_check.specs.declared.verdict.Verdict.{Verdict}
 use Rattle.history_check.specs.declared.verdict.Verdict.TheVariants as verdicts
 
 -- ---- a trace cut behind a quiet line
--- The trace with these lines in place of its own.
-abbrev pub with_lines : AcceptedTrace → List TraceLine → AcceptedTrace
-with_lines t lines = record { config = t.config; lines = lines }
-
 -- The lines up to the k-th quiet line, which is the last of them; all where there are fewer.
 abbrev pub lines_to : ℕ → List TraceLine → List TraceLine
 lines_to zero ls = []
@@ -22,7 +18,7 @@ lines_to (suc k) (l ∷ ls) = l ∷ lines_to (if is_quiet l.act then k else suc 
 
 -- The trace cut after its k-th quiet line; the whole trace past the last.
 abbrev pub trace_to : ℕ → AcceptedTrace → AcceptedTrace
-trace_to k t = with_lines t (lines_to k t.lines)
+trace_to k t = record t { lines = lines_to k t.lines }
 
 -- One more than the quiet lines.
 abbrev pub section_count : AcceptedTrace → ℕ

@@ -1,14 +1,14 @@
 ghost use Rattle.std.specs.Prelude.{◌≡◌, ◌≤◌, ◌<◌, ◌+◌, ◌-◌, ◌^◌, ℕ, List, true, length, drop, IfOk, IfSome, IfNone, OnOk};
 ghost use Rattle.partition.specs.PartitionState.{HasStates};
 ghost use Rattle.tlb_model.specs.Processor.{Processor};
-ghost use Rattle.trace_line.specs.Lines.{is_quiet, most_lines};
+ghost use Rattle.trace_line.specs.Lines.{is_quiet, most_lines, AreOnProcessors};
 ghost use Rattle.trace_reply.specs.declared.reply.Reply.{Reply};
 ghost use Rattle.trace_reply.specs.Replies.{lines_with_replies};
 ghost use Rattle.run_model.specs.QuietLines.{shown_of};
 ghost use Rattle.run_model.specs.AllStores.{opening_all, table_store};
 ghost use Rattle.run_model.specs.StoreNumbers.{store_at};
 ghost use Rattle.run_model.specs.Stores.{window_store};
-ghost use Rattle.run_model.specs.Quiet.{NoneQuiet, AreOnProcessors};
+ghost use Rattle.run_model.specs.Quiet.{NoneQuiet};
 ghost use Rattle.history_check.specs.FoundSection.{HasNoSection, TellsSection, opening_of};
 ghost use Rattle.history_check.specs.FoundStores.{AreFound, run_quiet_on, stores_behind};
 ghost use Rattle.history_check.specs.JudgedRun.{resize_on};

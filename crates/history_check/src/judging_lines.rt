@@ -1,7 +1,7 @@
 ghost use Rattle.std.specs.Prelude.{◌≡◌, ◌<◌, length, ℕ, false, IfOk};
 ghost use Rattle.entry_model.specs.Fronts.{front_at};
-ghost use Rattle.trace_line.specs.Lines.{is_quiet};
-ghost use Rattle.run_model.specs.Quiet.{NoneQuiet, AreOnProcessors};
+ghost use Rattle.trace_line.specs.Lines.{is_quiet, AreOnProcessors};
+ghost use Rattle.run_model.specs.Quiet.{NoneQuiet};
 ghost use Rattle.history_check.specs.FrontKeeping.{fronts_of};
 ghost use Rattle.history_check.specs.JudgedLines.{judged, TellsLine, TellsLines};
 

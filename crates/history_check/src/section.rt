@@ -2,16 +2,14 @@ ghost use Rattle.std.specs.Prelude.{◌≡◌, ◌≤◌, ◌<◌, ◌^◌, leng
 ghost use Rattle.std.specs.List.{AllByRecursion};
 ghost use Rattle.entry_model.specs.State.{State};
 ghost use Rattle.entry_model.specs.Fronts.{opening_fronts};
-ghost use Rattle.run_model.specs.Quiet.{NoneQuiet, AreOnProcessors};
+ghost use Rattle.run_model.specs.Quiet.{NoneQuiet};
 ghost use Rattle.history_check.specs.FoundSection.{TellsSection};
-ghost use Rattle.history_check.specs.SectionMarks.{ReadMarks};
 ghost use Rattle.hpte_fields.specs.TableSize.{entry_count, greatest_order};
-ghost use Rattle.trace_line.specs.Lines.{most_lines};
+ghost use Rattle.trace_line.specs.Lines.{most_lines, AreOnProcessors};
 
 use crate::context::Context;
 use crate::fronts::pair_of;
 use crate::judging_lines::judge_lines;
-use crate::mark_steps::LineStep;
 use crate::placed::find_states;
 use crate::reading::{SectionSteps, read_section};
 use entry_model::EntryState;
@@ -31,65 +29,6 @@ fn pairs_of(alloc: Global, states: &[EntryState]) -> Result<Vec<u64>, AllocError
         pairs.push(pair_of(state))?;
     }
     Ok(pairs)
-}
-
-/// Finds a section whose marks were read: their steps, and how many each line has. `opening` has
-/// the pairs of the states on which it opens. Gives how many bytes stand first that are the text of
-/// good replies to the lines, and leaves the states on which the section closes, and its
-/// processors.
-fn section_by_steps(
-    alloc: Global,
-    context: &Context,
-    opening: &[u64],
-    states: &mut Vec<EntryState>,
-    processors: &mut Vec<Cpu>,
-    lines: &[TraceLine],
-    steps: Vec<LineStep>,
-    counts: &[usize],
-    text: &[u8],
-) -> Result<Option<usize>, AllocError>
-    requires plain { NoneQuiet lines.now }
-    requires cpus { AreOnProcessors (length processors.old.items) lines.now }
-    requires few { length states.old.items ≤ entry_count greatest_order }
-    requires low { AllByRecursion (λ (s : State). s.stamp < 2 ^ 32) states.old.items }
-    requires opening { opening.now ≡ opening_fronts states.old.items }
-    requires read { ReadMarks
-        context.now
-        (length states.old.items)
-        lines.now
-        text.now
-        steps.items
-        counts.now }
-    ensures told { IfOk
-        result
-        (λ found.
-        TellsSection
-        (record {
-          context = context.now;
-          states = states.old.items;
-          processors = processors.old.items;
-        })
-        lines.now
-        text.now
-        found
-        states.new.items
-        processors.new.items) }
-    ensures states { length states.new.items ≡ length states.old.items }
-    ensures processors { length processors.new.items ≡ length processors.old.items }
-{
-    let found = find_states(alloc, states, lines, steps)?;
-    let judged = judge_lines(
-        alloc,
-        context,
-        opening,
-        states.as_slice(),
-        processors,
-        lines,
-        counts,
-        found.as_slice(),
-        text,
-    )?;
-    Ok(judged)
 }
 
 /// Finds a section that opens on these states, with these processors: how many bytes stand first
@@ -130,15 +69,17 @@ pub fn section_found(
         return Ok(None);
     };
     let SectionSteps { steps, counts } = read;
-    section_by_steps(
+    let found = find_states(alloc, states, lines, steps)?;
+    let judged = judge_lines(
         alloc,
         context,
         opening.as_slice(),
-        states,
+        states.as_slice(),
         processors,
         lines,
-        steps,
         counts.as_slice(),
+        found.as_slice(),
         text,
-    )
+    )?;
+    Ok(judged)
 }

@@ -11,7 +11,7 @@ use Rattle.hpt_hash.specs.Entries.{low_hash}
 
 -- ---- complements
 -- The complement of a number under a mask that divides the range of the complement.
-pub complement_below :
+complement_below :
     (d q k r : ℕ) → r < k → ((q * k + k + d * k) - 1 - (q * k + r)) % k ≡ k - 1 - r
 complement_below d q k r h =
     let e : (q * k + k + d * k) - 1 - (q * k + r) ≡ d * k + (k - 1 - r) = omega arith in
@@ -21,7 +21,7 @@ three_times : (q d k : ℕ) → (q + 1 + d) * k ≡ q * k + k + d * k
 three_times q d k =
     add-mul (q + 1) d k ∙ ap (λ n. n + d * k) (add-mul q 1 k ∙ ap (λ n. q * k + n) (one-mul k))
 
-complement-mod :
+pub complement-mod :
     (j k h : ℕ) → h < 2 ^ (j + k) → (2 ^ (j + k) - 1 - h) % 2 ^ k ≡ 2 ^ k - 1 - h % 2 ^ k
 complement-mod j k h small =
     let split : 2 ^ (j + k) ≡ 2 ^ j * 2 ^ k = pow-add 2 j k in

@@ -1,5 +1,5 @@
 -- Blocks that are apart: what a further one needs, and what taking and giving keep.
-use Rattle.std.proofs.Common.{◌≡◌, ℕ, ◌+◌, ◌%◌, ◌^◌, ◌<◌, ◌≤◌, ◌&&◌, ◌==◌, nat_le, get_or, Bool, true, false, not, ◌∷◌, ◌++◌, filter, All, AllPairs, sym, subst, arith}
+use Rattle.std.proofs.Common.{◌≡◌, ℕ, ◌+◌, ◌%◌, ◌^◌, ◌<◌, ◌≤◌, ◌&&◌, ◌==◌, nat_le, get_or, Bool, true, false, not, ◌∷◌, ◌++◌, filter, All, AllPairs, sym, subst, arith, ◌≢◌}
 use Rattle.std.specs.List.{list_any}
 use Rattle.std.proofs.lemmas.Bool.{not-true, and_parts}
 use Rattle.std.proofs.lemmas.Bool.Decides.{nat_tests}
@@ -17,7 +17,24 @@ size_above block = pow_pos block.order
 pub overlap_turned : (one other : Block) → overlap one other ≡ false → overlap other one ≡ false
 overlap_turned one other apart = grind (arith, nat_tests, apart)
 
+-- Blocks that share no address begin at two places.
+pub apart_places :
+    (block other : Block) → overlap block other ≡ false → block.place ≢ other.place
+apart_places block other clear =
+    let size = size_above block in
+    let other_size = size_above other in
+    λ same. grind (arith, nat_tests, clear, same)
+
 -- ---- a block that is taken
+-- A block that fits overlaps none that is taken.
+pub fits_apart :
+    (pool_state : PoolState) (order place : ℕ)
+    → fits pool_state order place ≡ true
+    → All (λ other. overlap (block_at place order) other ≡ false) pool_state.taken
+fits_apart pool_state order place fit =
+    list_any-false (overlap (block_at place order)) pool_state.taken
+    (not-true _ (and_parts _ _ fit).1)
+
 -- The block is aligned and lies in the pool, and it overlaps none that is taken.
 pub record FitsIn (pool_state : PoolState) (block : Block) : Type 0 where
   pub placed : IsPlaced pool_state block
@@ -32,7 +49,6 @@ fits_in pool_state order place large fit =
     let meets = list_any (overlap (block_at place order)) pool_state.taken in
     let lies : Bool = place % 2 ^ order == 0 && nat_le pool_state.base place && nat_le
     (place + 2 ^ order) (pool_state.base + 2 ^ pool_state.order) in
-    let free : not meets ≡ true = (and_parts lies (not meets) fit).1 in
     let whole : lies ≡ true = (and_parts lies (not meets) fit).0 in
     let aligned : place % 2 ^ order ≡ 0 = grind (arith, nat_tests, whole) in
     let low : pool_state.base ≤ place = grind (arith, nat_tests, whole) in
@@ -40,7 +56,7 @@ fits_in pool_state order place large fit =
     (arith, nat_tests, whole) in
     record {
       placed = record { at_least = large; aligned = aligned; from_base = low; to_end = high };
-      apart = list_any-false (overlap (block_at place order)) pool_state.taken (not-true _ free);
+      apart = fits_apart pool_state order place fit;
     }
 
 -- A block that begins below another has the lower place.
@@ -57,7 +73,8 @@ higher_place block other apart not_below =
     let other_size = size_above other in
     grind (arith, nat_tests, apart, not_below)
 
-parts_join :
+-- In rising blocks those that begin below another one stand first.
+pub parts_join :
     (pool_state : PoolState) (block : Block)
     → AreApart pool_state
     → filter (begins_below block) pool_state.taken

@@ -3,14 +3,14 @@ use Rattle.std.proofs.Common.{◌≡◌, ℕ, ◌+◌, ◌-◌, ◌*◌, ◌/◌
 use Rattle.std.specs.Prelude.{option_map}
 use Rattle.std.proofs.lemmas.Bool.{and_parts}
 use Rattle.std.proofs.Math.Pow.{mod-mod-pow}
-use Rattle.std.proofs.Math.Nat.{mod-lt, div-lt_iff_lt-mul}
-use Rattle.std.proofs.lemmas.Nat.{pow_pos, pow-add, div-add-mod'}
+use Rattle.std.proofs.Math.Nat.{mod-lt}
+use Rattle.std.proofs.lemmas.Nat.{pow_pos, pow-add}
 use Rattle.power_addr.specs.Pages.{VirtualPage}
 use Rattle.hpte_fields.specs.Fields.{is_bolted, is_secondary}
 use Rattle.hpt_hash.specs.Hash.{hash_of, group_of}
 use Rattle.hpte_fields.specs.TableSize.{group_count, least_order}
 use Rattle.hpt_hash.specs.Entries.{page_at}
-use Rattle.hpt_hash.proofs.GroupBits.{group_of-lt, complement_below}
+use Rattle.hpt_hash.proofs.GroupBits.{group_of-lt, complement-mod}
 use Rattle.hpt_hash.proofs.PageLemmas.{page_at-moved, page_at-group, if_some}
 use Rattle.entry_model.specs.State.{State}
 use Rattle.entry_model.specs.Run.{state_at}
@@ -109,40 +109,6 @@ target_page from to state index target large large' e =
     page_at-moved from to index target state.dword0 state.dword1 is.page large large' is.found
     stands
 
-three_times : (q d k : ℕ) → (q + 1 + d) * k ≡ q * k + k + d * k
-three_times q d k = grind arith
-
--- The complement of a number, cut to fewer bits, is the complement of the cut number.
-complement_low :
-    (low high h : ℕ)
-    → low ≤ high
-    → h < 2 ^ high
-    → (2 ^ high - 1 - h) % 2 ^ low ≡ 2 ^ low - 1 - h % 2 ^ low
-complement_low low high h below small =
-    let split : 2 ^ high ≡ 2 ^ (high - low) * 2 ^ low = ap (λ n. 2 ^ n)
-    (let e : high ≡ high - low + low = omega arith in e) ∙ pow-add 2 (high - low) low in
-    let whole : h ≡ h / 2 ^ low * 2 ^ low + h % 2 ^ low = sym (div-add-mod' h (2 ^ low)) in
-    let within : h / 2 ^ low < 2 ^ (high - low) =
-    (div-lt_iff_lt-mul {k = 2 ^ low} {x = h} {y = 2 ^ (high - low)} (pow_pos low)).1
-    (omega arith) in
-    of_parts (2 ^ (high - low) - 1 - h / 2 ^ low) (h / 2 ^ low) (2 ^ low) (h % 2 ^ low) (2 ^ high)
-    (mod-lt h (pow_pos low)) whole
-    (split
-    ∙ ap (λ n. n * 2 ^ low)
-    (let e : 2 ^ (high - low) ≡ h / 2 ^ low + 1 + (2 ^ (high - low) - 1 - h / 2 ^ low) = omega
-    arith in
-    e)) where
-      of_parts :
-          (d q k r n : ℕ)
-          → r < k
-          → h ≡ q * k + r
-          → n ≡ (q + 1 + d) * k
-          → (n - 1 - h) % k ≡ k - 1 - r
-      of_parts d q k r n low_r whole all =
-          ap (λ m. (m - 1 - h) % k) (all ∙ three_times q d k)
-          ∙ ap (λ m. ((q * k + k + d * k) - 1 - m) % k) whole
-          ∙ complement_below d q k r low_r
-
 pub larger_group :
     (page : VirtualPage) (from to : ℕ) (secondary : Bool)
     → least_order ≤ from
@@ -157,7 +123,12 @@ larger_group page from to true large below =
     let e : to - 7 ≡ (to - from) + (from - 7) = omega arith in
     let low : hash_of page % 2 ^ (to - 7) < 2 ^ (to - 7) = mod-lt (hash_of page) (pow_pos (to - 7))
     in
-    complement_low (from - 7) (to - 7) (hash_of page % 2 ^ (to - 7)) (omega arith) low
+    subst
+    (λ n.
+    hash_of page % 2 ^ (to - 7) < 2 ^ n
+    → (2 ^ n - 1 - hash_of page % 2 ^ (to - 7)) % 2 ^ (from - 7)
+    ≡ 2 ^ (from - 7) - 1 - hash_of page % 2 ^ (to - 7) % 2 ^ (from - 7)) (sym e)
+    (complement-mod (to - from) (from - 7) (hash_of page % 2 ^ (to - 7))) low
     ∙ ap (λ n. 2 ^ (from - 7) - 1 - n)
     (ap (λ n. hash_of page % 2 ^ n % 2 ^ (from - 7)) e
     ∙ mod-mod-pow (hash_of page) (to - from) (from - 7))

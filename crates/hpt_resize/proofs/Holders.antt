@@ -14,18 +14,6 @@ pub held_at :
 held_at held xs i x inside is =
     get_or-map held xs i x (empty_state 0) inside ∙ ap held (sym is)
 
-pub held_set :
-    {X : Type 0} (held : X → State) (xs : List X) (i : ℕ) (x : X)
-    → map held (set xs i x) ≡ set (map held xs) i (held x)
-held_set held [] i x = refl
-held_set held (y ∷ xs) zero x = refl
-held_set held (y ∷ xs) (suc i) x = ap (λ ss. held y ∷ ss) (held_set held xs i x)
-
--- States hold themselves.
-pub held_states : (ss : List State) → map (λ (s : State). s) ss ≡ ss
-held_states [] = refl
-held_states (s ∷ ss) = ap (λ xs. s ∷ xs) (held_states ss)
-
 -- ---- holders so far
 -- Each holds a state for the first time, or none that is valid.
 abbrev pub AreHolders :

@@ -1,10 +1,9 @@
 -- Which blocks of the pool are taken after the calls.
-use Rattle.std.proofs.Common.{◌≡◌, ◌≢◌, ℕ, zero, suc, ◌+◌, ◌%◌, ◌^◌, ◌==◌, ◌&&◌, nat_le, nat_lt, Bool, true, false, not, if◌then◌else◌, List, [], ◌∷◌, find, Contains, Option, Some, None, MatchOption, refl, sym, subst, inl, inr, ◌⊎◌, arith}
-use Rattle.std.specs.List.{list_any}
-use Rattle.std.proofs.lemmas.Bool.{cases_Bool, and_parts, or_parts, not-true}
-use Rattle.std.proofs.lemmas.Bool.Decides.{nat_tests}
-use Rattle.std.proofs.lemmas.Nat.{pow_pos}
-use Rattle.hpt_pool.specs.Pool.{Block, PoolState, block_at, end_of, overlap, fits, multiples, lowest_place}
+use Rattle.std.proofs.Common.{◌≡◌, ◌≢◌, ℕ, ◌==◌, nat_lt, Bool, true, false, not, if◌then◌else◌, Contains, Option, Some, None, MatchOption, refl, sym, subst}
+use Rattle.std.proofs.lemmas.List.Elements.{All-contains}
+use Rattle.hpt_pool.proofs.Placing.{apart_places, fits_apart}
+use Rattle.basics.proofs.Lists.{find-Some}
+use Rattle.hpt_pool.specs.Pool.{Block, PoolState, block_at, overlap, fits, multiples, lowest_place}
 use Rattle.hpt_pool.proofs.Kept.{with_contains, with_keeps, without_keeps}
 use Rattle.papr_codes.specs.declared.codes.Rc.{Rc}
 use Rattle.papr_codes.specs.declared.codes.Rc.TheVariants.{Success, LongBusy, Parameter, NoMem, Resource}
@@ -12,47 +11,16 @@ use Rattle.hpt_resize.specs.Pending.{PendingTable, is_ready, with_more_ready}
 use Rattle.hpt_resize.specs.Resize.{IsHeld, IsElsewhere, KeepsBlocks, PrepareOutcome, prepare_outcome, is_prepare_request, pool_without, is_pending, new_table_outcome, start_outcome, advance_outcome, outcome_of_prepare}
 
 -- ---- a place that fits
-find_passes : {X : Type 0} (p : X → Bool) (xs : List X) (x : X) → find p xs ≡ Some x → p x ≡ true
-find_passes p [] x found = absurd (cc)
-find_passes {X} p (y ∷ ys) x found = at (find_passes p ys x) (cases_Bool (p y)) where
-  at : (find p ys ≡ Some x → p x ≡ true) → (p y ≡ true) ⊎ (p y ≡ false) → p x ≡ true
-  at later (inl passes) =
-      let first : find p (y ∷ ys) ≡ Some y = rw passes refl in
-      let same : y ≡ x = cc in
-      subst (λ (z : X). p z ≡ true) same passes
-  at later (inr fails) = later (rw fails at found)
-
-any_not :
-    {X : Type 0} (p : X → Bool) (xs : List X) (x : X)
-    → list_any p xs ≡ false
-    → Contains xs x
-    → p x ≡ false
-any_not p [] x none (k, inside, is) = absurd (omega arith)
-any_not {X} p (y ∷ ys) x none (zero, inside, is) =
-    subst (λ (z : X). p z ≡ false) is (or_parts (p y) (list_any p ys) none).0
-any_not p (y ∷ ys) x none (suc k, inside, is) =
-    any_not p ys x (or_parts (p y) (list_any p ys) none).1 (k, omega arith, is)
-
 -- Where a block fits no taken one begins.
 fits_elsewhere :
     (pool : PoolState) (order place : ℕ) (block : Block)
     → fits pool order place ≡ true
     → Contains pool.taken block
     → place ≢ block.place
-fits_elsewhere pool order place block fit here same =
-    let free : not (list_any (overlap (block_at place order)) pool.taken) ≡ true =
-    (and_parts
-    (place % 2 ^ order == 0 && nat_le pool.base place && nat_le (place + 2 ^ order)
-    (pool.base + 2 ^ pool.order))
-    (not (list_any (overlap (block_at place order)) pool.taken)) fit).1 in
-    let apart : overlap (block_at place order) block ≡ false = any_not
-    (overlap (block_at place order)) pool.taken block (not-true _ free) here in
-    let some = pow_pos order in
-    let some_other = pow_pos block.order in
-    let low : nat_lt place (end_of block) ≡ true = grind (arith, nat_tests) in
-    let high : nat_lt block.place (place + 2 ^ order) ≡ true = grind (arith, nat_tests) in
-    let meet : overlap (block_at place order) block ≡ true = rw (low, high) refl in
-    cc
+fits_elsewhere pool order place block fit here =
+    apart_places (block_at place order) block
+    (All-contains (λ (other : Block). overlap (block_at place order) other ≡ false) pool.taken block
+    (fits_apart pool order place fit) here)
 
 pub lowest_fits :
     (pool : PoolState) (order place : ℕ)
@@ -60,7 +28,7 @@ pub lowest_fits :
     → fits pool order place ≡ true
 unfolding lowest_place
 lowest_fits pool order place found =
-    find_passes (fits pool order) (multiples pool order) place found
+    (find-Some (fits pool order) (multiples pool order) place found).0
 
 -- ---- the parts of a prepare
 -- What is to be shown of the call: it is put together from its parts.

@@ -25,17 +25,13 @@ use Rattle.hpt_walk.proofs.Found.{found-on, found-off}
 use Rattle.hpt_walk.proofs.Decided.{match_of, no_match_or_decided}
 use Rattle.hpt_walk.proofs.Telling.{match_page, page_match, valid_of_page}
 use Rattle.hpte_fields.specs.TableSize.{least_order}
-use Rattle.std.proofs.Math.Bool.{or-false, and-true}
-use Rattle.basics.proofs.Each.{each_append}
+use Rattle.std.proofs.Math.Bool.{or-false, and-true, and-false}
+use Rattle.basics.proofs.Each.{each_append, each_within}
 
 -- ---- the list of translations
 -- The page is this one.
 abbrev pub is_this : VirtualPage → Option VirtualPage → Bool
 is_this page o = option_map_or (λ (p : VirtualPage). same_page p page) o false
-
-and_false : (b : Bool) → (b && false) ≡ false
-and_false true = refl
-and_false false = refl
 
 below-eqb : (m n : ℕ) → m < n → (n == m) ≡ false
 below-eqb m n h = at (cases_Bool (n == m)) where
@@ -56,7 +52,7 @@ head_other :
 head_other page k e None rest other = refl
 head_other page k e (Some p) rest other =
     ap (λ b. (same_page p page && b) || is_paired rest page e) other
-    ∙ ap (λ b. b || is_paired rest page e) (and_false (same_page p page))
+    ∙ ap (λ b. b || is_paired rest page e) (and-false (same_page p page))
 
 head_same :
     (page : VirtualPage) (k : ℕ) (o : Option VirtualPage) (rest : List Translation)
@@ -143,15 +139,6 @@ page_paired order e page s low is state of =
     ∙ page_self page
 
 -- ---- one receipt
-pub state_of :
-    (a : List State) (e : ℕ)
-    → AllByRecursion IsEntryState a
-    → e < length a
-    → IsEntryState (get_or a e (empty_state 0))
-state_of [] e all h = absurd (omega arith)
-state_of (s ∷ ss) zero all h = all.0
-state_of (s ∷ ss) (suc e) all h = state_of ss e all.1 (omega arith)
-
 -- A call of a walk: on an entry of the group for its H.
 abbrev IsCallOf : ℕ → VirtualPage → AccessMode → Call → Type 0
 IsCallOf order page mode c =
@@ -182,7 +169,7 @@ paired_found :
 paired_found order page mode a c r mid low is states of receipt step off =
     let s : State = state_at a c.entry in
     let within : c.entry < length a = subst (λ e. e < length a) receipt.entry step.in_table in
-    let state : IsEntryState s = state_of a c.entry states within in
+    let state : IsEntryState s = each_within IsEntryState a c.entry (empty_state 0) states within in
     let both = answer_of page mode of.0 r s (receipt.op ∙ of.1)
     (step.before ∙ ap (state_at a) receipt.entry) in
     let matching : is_match s (tag_of page + h_bit of.0 + 1) page.shift ≡ true = match_of s _ _ mode
@@ -219,7 +206,7 @@ unpaired_none order page mode a c r mid low is states of receipt step on = (
   within = subst (λ e. e < length a) receipt.entry step.in_table
 
   state : IsEntryState s
-  state = state_of a c.entry states within
+  state = each_within IsEntryState a c.entry (empty_state 0) states within
 
   both : (r.answer, after_of r) ≡ answer_of_access s tag page.shift mode
   both =

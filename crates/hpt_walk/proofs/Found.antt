@@ -1,5 +1,5 @@
 -- What a walk found.
-use Rattle.std.specs.Prelude.{IsTrue, map}
+use Rattle.std.specs.Prelude.{IsTrue}
 use Rattle.std.proofs.Common.{◌≡◌, ℕ, suc, List, [], ◌∷◌, ◌++◌, length, true, false, ap, sym, ◌∙◌, refl, subst, ◌⊎◌, inl, inr, Some, None}
 use Rattle.std.specs.List.{AllByRecursion}
 use Rattle.std.proofs.lemmas.Bool.{cases_Bool}
@@ -7,7 +7,7 @@ use Rattle.entry_model.specs.declared.receipt.Receipt.{Receipt}
 use Rattle.entry_model.specs.declared.operation.Op.{Op}
 use Rattle.entry_model.specs.Receipt.{is_no_match, is_decided, found_of}
 use Rattle.entry_model.specs.CachedLines.{ShowsLine, line_of}
-use Rattle.entry_model.specs.Trial.{Call, IsTrial, call}
+use Rattle.entry_model.specs.Trial.{Call, IsTrial}
 use Rattle.power_addr.specs.Pages.{VirtualPage}
 
 -- ---- one receipt before others
@@ -191,10 +191,3 @@ pub trial_ops :
     → IsTrial is_no_match cs rs
     → AllByRecursion (λ (r : Receipt). P r.op) rs
 trial_ops P cs rs all s = trial_calls (λ op entry. P op) cs rs all s
-
-pub same_ops :
-    (P : Op → Type 0) (op : Op) (es : List ℕ)
-    → P op
-    → AllByRecursion (λ (c : Call). P c.op) (map (call op) es)
-same_ops P op [] p = tt
-same_ops P op (e ∷ es) p = (p, same_ops P op es p)

@@ -1,22 +1,18 @@
--- The page of each valid entry lies in a grant, and no operation changes that but one that enters
--- words of another page.
-use Rattle.std.proofs.Common.{◌≡◌, ℕ, ◌+◌, ◌^◌, ◌<◌, List, true, false, Option, Some, ap, sym, subst, arith}
+-- The page of each valid entry lies in a grant.
+use Rattle.std.proofs.Common.{◌≡◌, ℕ, ◌^◌, ◌<◌, List, true, Option, Some, ap, sym, subst, arith}
 use Rattle.std.specs.Option.{option_map_or}
 use Rattle.std.proofs.lemmas.Nat.{pow_pos}
 use Rattle.page_sizes.specs.declared.size.PageSize.{PageSize}
 use Rattle.page_sizes.specs.Sizes.{size_of}
 use Rattle.hpte_fields.specs.Fields.{page_bits, frame_of, protected_word, without_rc}
-use Rattle.hpte_fields.proofs.PageBits.{same_size, same_frame, without_rc_page, protected_page}
+use Rattle.hpte_fields.proofs.PageBits.{same_size, same_frame, without_rc_page}
+use Rattle.hpte_fields.proofs.KeptBits.{protected_page}
 use Rattle.frame_grants.specs.declared.grant.Grant.{Grant}
 use Rattle.frame_grants.specs.declared.grant.Kind.{Kind}
 use Rattle.frame_grants.specs.Grants.{machine_range}
 use Rattle.frame_grants.proofs.Landing.{part_range}
-use Rattle.entry_model.specs.State.{State, empty_state}
-use Rattle.entry_model.specs.declared.operation.Answer.{Answer}
-use Rattle.entry_model.specs.declared.operation.Op.{Op}
-use Rattle.entry_model.specs.Reply.{reply_of}
-use Rattle.entry_model.proofs.PlanBounds.{EntersOnly}
-use Rattle.entry_model.proofs.Replied.{Changes, enters, removes, protects, clears_r, clears_c, Replied, replied, left, changed, accessed}
+use Rattle.entry_model.specs.State.{State}
+use Rattle.entry_model.proofs.KeptWords.{HasWords, StaysInEntries}
 use Rattle.hpt_walk.specs.Access.{actual_size, logical_of}
 
 -- The range of this size from a frame on lies in one grant.
@@ -37,7 +33,7 @@ pub record IsGrantedWords (grants : List Grant) (dword0 dword1 : ℕ) : Type 0 w
 
 -- The page of a valid entry lies in one grant, and its first doubleword has 64 bits.
 abbrev pub IsGranted : List Grant → State → Type 0
-IsGranted grants s = s.valid ≡ true → IsGrantedWords grants s.dword0 s.dword1
+IsGranted grants s = HasWords (IsGrantedWords grants) s
 
 -- ---- words with the same page
 same_words :
@@ -59,39 +55,13 @@ same_words grants h l m e granted =
     }
 
 -- ---- operations
-pub empty_granted : (grants : List Grant) (stamp : ℕ) → IsGranted grants (empty_state stamp)
-empty_granted grants stamp = λ e. absurd (let never : false ≡ true = e in cc)
-
-changed_granted :
-    (grants : List Grant) (s : State) {op : Op} {a : Answer} {next : State}
-    → Changes s op a next
-    → EntersOnly (IsGrantedWords grants) op
-    → IsGranted grants s
-    → IsGranted grants (record next { stamp = s.stamp + 1 })
-changed_granted grants s (enters dword0 dword1 valid) w h =
-    λ _. same_words grants dword0 dword1 (without_rc dword1) (without_rc_page dword1) w
-changed_granted grants s (removes test valid) w h = empty_granted grants (s.stamp + 1)
-changed_granted grants s (protects test flags valid) w h =
-    λ e.
-    same_words grants s.dword0 s.dword1 (protected_word s.dword1 flags)
-    (protected_page s.dword1 flags) (h e)
-changed_granted grants s (clears_r valid) w h = h
-changed_granted grants s (clears_c valid) w h = h
-
-pub reply_granted :
-    (grants : List Grant) (s : State) (op : Op)
-    → EntersOnly (IsGrantedWords grants) op
-    → IsGranted grants s
-    → IsGranted grants (reply_of s op).1
-reply_granted grants s op w h = at (replied s op) w where
-  at :
-      {op : Op} {x : Answer × State}
-      → Replied s op x
-      → EntersOnly (IsGrantedWords grants) op
-      → IsGranted grants x.1
-  at (left a is) w = h
-  at (changed a next changes is) w = changed_granted grants s changes w h
-  at (accessed tag base key no_execute want masks valid) w = h
+-- A granted page stays so in an entry, whatever is done with its other bits.
+pub granted_stay : (grants : List Grant) → StaysInEntries (IsGrantedWords grants)
+granted_stay grants = record {
+  entered = λ h l w. same_words grants h l (without_rc l) (without_rc_page l) w;
+  protected =
+      λ h l flags w. same_words grants h l (protected_word l flags) (protected_page l flags) w;
+}
 
 -- ---- accesses
 -- An access by a valid entry has a machine address.

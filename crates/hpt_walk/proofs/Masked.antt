@@ -3,6 +3,7 @@ use Rattle.std.proofs.Common.{◌≡◌, ℕ, ◌*◌, ◌↔◌, ◌⊎◌, inl
 use Rattle.std.specs.Prelude.{is_some, if◌then◌else◌}
 use Rattle.std.specs.List.{AllByRecursion, range_with_len}
 use Rattle.std.proofs.lemmas.Bool.{cases_Bool, false≢true}
+use Rattle.entry_model.proofs.PlanBounds.{each_call}
 use Rattle.power_addr.specs.Pages.{VirtualPage}
 use Rattle.hpt_hash.specs.Hash.{group_of}
 use Rattle.slb_model.specs.declared.segment.Segment.{Segment}
@@ -32,7 +33,7 @@ use Rattle.hpt_walk.specs.declared.request.Request.{Request}
 use Rattle.hpt_walk.specs.Access.{AccessContext, IsAccessReply, IsByWay, hit_calls, mode_for, landing_at, logical_of, refused_by, refusing_mask, outcome_by, outcome_of}
 use Rattle.hpt_walk.specs.Laws.{IsRefusedByMask}
 use Rattle.hpt_walk.specs.Walk.{access_op, group_calls, walk_calls}
-use Rattle.hpt_walk.proofs.Found.{trial_ops, same_ops, found-on, found-off}
+use Rattle.hpt_walk.proofs.Found.{trial_ops, found-on, found-off}
 use Rattle.basics.proofs.Each.{each_append}
 
 -- ---- operations of this mode
@@ -49,9 +50,9 @@ calls_in_mode order page mode =
     each_append (λ (c : Call). IsInMode mode c.op)
     (group_calls (access_op page mode false) (group_of page order false))
     (group_calls (access_op page mode true) (group_of page order true))
-    (same_ops (IsInMode mode) (access_op page mode false)
+    (each_call (IsInMode mode) (access_op page mode false)
     (range_with_len (group_of page order false * 8) 8) (_, _, refl))
-    (same_ops (IsInMode mode) (access_op page mode true)
+    (each_call (IsInMode mode) (access_op page mode true)
     (range_with_len (group_of page order true * 8) 8) (_, _, refl))
 
 abbrev AreInMode : AccessMode → List Receipt → Type 0

@@ -2,6 +2,7 @@
 use Rattle.std.proofs.Common.{◌≡◌, ℕ, ◌*◌, List, [], ◌∷◌, true, false, Option, Some, None, ap, sym, ◌∙◌, refl, subst, set}
 use Rattle.std.specs.List.{AllByRecursion, range_with_len}
 use Rattle.std.proofs.lemmas.List.{set-get_or}
+use Rattle.entry_model.proofs.PlanBounds.{each_call}
 use Rattle.power_addr.specs.Pages.{VirtualPage}
 use Rattle.hpt_hash.specs.Hash.{group_of}
 use Rattle.slb_model.specs.declared.segment.Segment.{Segment}
@@ -19,7 +20,7 @@ use Rattle.entry_model.proofs.OperationLaws.{access_undone}
 use Rattle.hpt_walk.specs.declared.request.Request.{Request}
 use Rattle.hpt_walk.specs.Access.{AccessContext, IsAccessReply, IsByWay, hit_calls, mode_for}
 use Rattle.hpt_walk.specs.Walk.{access_op, group_calls, walk_calls}
-use Rattle.hpt_walk.proofs.Found.{trial_ops, same_ops}
+use Rattle.hpt_walk.proofs.Found.{trial_ops}
 use Rattle.basics.proofs.Each.{each_append}
 
 -- ---- receipts
@@ -51,7 +52,7 @@ run_still old new (r ∷ rs) access off run =
     run_still run.0 new rs access.1 off.1 run.2 ∙ step_still old run.0 r access.0 off.0 run.1
 
 -- ---- the receipts of an access
-calls_access :
+pub calls_access :
     (order : ℕ) (page : VirtualPage) (mode : AccessMode)
     → AllByRecursion (λ (c : Call). is_access c.op ≡ true) (walk_calls order page mode)
 unfolding walk_calls
@@ -59,9 +60,9 @@ calls_access order page mode =
     each_append (λ (c : Call). is_access c.op ≡ true)
     (group_calls (access_op page mode false) (group_of page order false))
     (group_calls (access_op page mode true) (group_of page order true))
-    (same_ops (λ op. is_access op ≡ true) (access_op page mode false)
+    (each_call (λ op. is_access op ≡ true) (access_op page mode false)
     (range_with_len (group_of page order false * 8) 8) refl)
-    (same_ops (λ op. is_access op ≡ true) (access_op page mode true)
+    (each_call (λ op. is_access op ≡ true) (access_op page mode true)
     (range_with_len (group_of page order true * 8) 8) refl)
 
 walk_accesses :

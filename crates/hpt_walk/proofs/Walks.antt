@@ -2,6 +2,7 @@
 use Rattle.std.specs.Prelude.{IfSome, IsNone, ◌↔◌, IsTrue}
 use Rattle.std.proofs.Common.{◌≡◌, ℕ, ◌+◌, ◌-◌, ◌*◌, ◌^◌, ◌<◌, ◌≤◌, List, [], ◌∷◌, ◌++◌, length, true, false, Option, Some, None, arith, ap, sym, ◌∙◌, refl, subst, pow-add}
 use Rattle.std.specs.List.{AllByRecursion, range_with_len}
+use Rattle.entry_model.proofs.PlanBounds.{each_call}
 use Rattle.power_addr.specs.Pages.{VirtualPage}
 use Rattle.hpt_hash.specs.Hash.{group_of}
 use Rattle.hpte_fields.specs.TableSize.{group_count, least_order}
@@ -12,7 +13,7 @@ use Rattle.entry_model.specs.CachedLines.{ShowsLine, line_of}
 use Rattle.entry_model.specs.Trial.{Call, IsTrial}
 use Rattle.hpt_walk.specs.Walk.{access_op, group_calls, walk_calls, AreAllNoMatch}
 use Rattle.hpt_walk.specs.Translations.{TranslatesItsPage}
-use Rattle.hpt_walk.proofs.Found.{trial_ends, trial_joined, each_of_none, none_of_each, trial_whole, found_has, found_shows, trial_ops, same_ops}
+use Rattle.hpt_walk.proofs.Found.{trial_ends, trial_joined, each_of_none, none_of_each, trial_whole, found_has, found_shows, trial_ops}
 use Rattle.hpt_walk.proofs.Decided.{Decides, IsOfPage, receipt_decides, decided_off}
 use Rattle.entry_model.specs.Reply.{AccessMode}
 use Rattle.basics.proofs.Each.{each_append}
@@ -72,7 +73,7 @@ walk_joined order page mode op₁ op₂ g₁ g₂ rs ss a b c d s none t =
     (trial_joined (group_calls op₁ g₁) (group_calls op₂ g₂) rs ss s none t)
 
 -- ---- what a walk's receipts say
-calls-length :
+pub calls-length :
     (order : ℕ) (page : VirtualPage) (mode : AccessMode) → length (walk_calls order page mode) ≡ 16
 unfolding walk_calls
 calls-length order page mode = refl
@@ -85,9 +86,9 @@ ops_of_page order page mode =
     each_append (λ (c : Call). IsOfPage page mode c.op)
     (group_calls (access_op page mode false) (group_of page order false))
     (group_calls (access_op page mode true) (group_of page order true))
-    (same_ops (IsOfPage page mode) (access_op page mode false)
+    (each_call (IsOfPage page mode) (access_op page mode false)
     (range_with_len (group_of page order false * 8) 8) (false, refl))
-    (same_ops (IsOfPage page mode) (access_op page mode true)
+    (each_call (IsOfPage page mode) (access_op page mode true)
     (range_with_len (group_of page order true * 8) 8) (true, refl))
 
 none_is : {T : Type 0} (o : Option T) → IsNone o → o ≡ None

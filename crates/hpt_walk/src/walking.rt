@@ -114,11 +114,11 @@ fn search<T: EntryStore>(
     ensures found { result ≡ found_of (receipts_added receipts.old receipts.new) }
 {
     for slot in 0..GROUP_SIZE {
-        let made = store.apply(group * GROUP_SIZE + slot, op);
-        let receipt = &made;
-        receipts.push(*receipt);
-        if !goes_on_after(receipt.answer) {
-            return Some(*receipt);
+        let receipt = store.apply(group * GROUP_SIZE + slot, op);
+        let answer = receipt.answer;
+        receipts.push(receipt);
+        if !goes_on_after(answer) {
+            return receipts.as_slice().last().copied();
         }
     }
     None

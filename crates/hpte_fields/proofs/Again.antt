@@ -3,9 +3,10 @@ use Rattle.std.proofs.Common.{◌≡◌, ℕ, ◌/◌, ◌^◌, ◌<◌, arith, 
 use Rattle.std.specs.Prelude.{◌||◌, is_none}
 use Rattle.std.specs.Int.Bits.{and_mask, and_shr, or_shr, or_zero_r}
 use Rattle.std.proofs.lemmas.Bool.{cases_Bool}
+use Rattle.std.proofs.lemmas.Nat.{and_assoc}
 use Rattle.page_sizes.specs.Sizes.{size_of}
 use Rattle.hpte_fields.specs.Fields.{normal_words, stored_first, stored_second, segment_code}
-use Rattle.hpte_fields.proofs.Masks.{set_again, mask_again, mask_of_or, masks_join, field_stays}
+use Rattle.hpte_fields.proofs.Masks.{set_again, mask_again, mask_of_or, field_stays}
 
 segment_stays : (x : ℕ) → x < 2 ^ 64 → segment_code (stored_first x) ≡ segment_code x
 segment_stays x h =
@@ -19,7 +20,7 @@ large_stays : (x : ℕ) → bit_and (stored_first x) 4 ≡ bit_and x 4
 large_stays x =
     mask_of_or (bit_and x 0xFFFFFFFFFFFFFF9F) 1 4
     ∙ or_zero_r (bit_and (bit_and x 0xFFFFFFFFFFFFFF9F) 4)
-    ∙ masks_join x 0xFFFFFFFFFFFFFF9F 4
+    ∙ and_assoc 4 x 0xFFFFFFFFFFFFFF9F
 
 -- L and the low part of the real page number stay, and so does the size.
 size_stays : (h l : ℕ) → size_of (stored_first h) (stored_second l) ≡ size_of h l

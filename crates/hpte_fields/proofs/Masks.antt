@@ -9,10 +9,6 @@ use Rattle.std.proofs.lemmas.Nat.Bits.{same_from_bits, bit_at_and, bit_at_or}
 pub set_again : (x m o : ℕ) → bit_or (bit_and (bit_or (bit_and x m) o) m) o ≡ bit_or (bit_and x m) o
 set_again x m o = same_from_bits _ _ (λ i. simp (bit_at_or, bit_at_and) (omega arith))
 
--- Two masks are the mask of what they share.
-pub masks_join : (x m n : ℕ) → bit_and (bit_and x m) n ≡ bit_and x (bit_and m n)
-masks_join x m n = same_from_bits _ _ (λ i. simp bit_at_and (omega arith))
-
 -- A mask of two numbers joined is that of each, joined.
 pub mask_of_or : (a b m : ℕ) → bit_and (bit_or a b) m ≡ bit_or (bit_and a m) (bit_and b m)
 mask_of_or a b m = same_from_bits _ _ (λ i. simp (bit_at_or, bit_at_and) (omega arith))

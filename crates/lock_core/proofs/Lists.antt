@@ -34,19 +34,6 @@ module _ {A : Type 0} where
   set_again (x ∷ xs) zero a e = λ k. sym (some_same x a e) k ∷ xs
   set_again (x ∷ xs) (suc i) a e = λ k. x ∷ set_again xs i a e k
 
-  pub set_twice : (l : List A) (i : ℕ) (a b : A) → set (set l i a) i b ≡ set l i b
-  set_twice [] i a b = refl
-  set_twice (x ∷ xs) zero a b = refl
-  set_twice (x ∷ xs) (suc i) a b = λ k. x ∷ set_twice xs i a b k
-
-  pub set_apart :
-      (l : List A) (i j : ℕ) (a b : A) → i ≢ j → set (set l i a) j b ≡ set (set l j b) i a
-  set_apart [] i j a b n = refl
-  set_apart (x ∷ xs) zero zero a b n = absurd (n refl)
-  set_apart (x ∷ xs) zero (suc j) a b n = refl
-  set_apart (x ∷ xs) (suc i) zero a b n = refl
-  set_apart (x ∷ xs) (suc i) (suc j) a b n = λ k. x ∷ set_apart xs i j a b (λ e. n (ap suc e)) k
-
   pub same_at :
       (l : List A) (i : ℕ) (a b : A) → slice_get l i ≡ Some a → slice_get l i ≡ Some b → a ≡ b
   same_at l i a b p q = some_same a b (sym p ∙ q)

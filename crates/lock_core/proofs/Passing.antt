@@ -2,6 +2,7 @@
 use Rattle.std.specs.Prelude.{slice_get}
 use Rattle.std.proofs.Common.{◌≡◌, ◌≢◌, ◌⊎◌, ℕ, true, false, List, ◌++◌, set, inl, inr, ⊎_elim, refl, sym, ap, ◌∙◌, subst, Some}
 use Rattle.std.proofs.lemmas.Bool.{false≢true}
+use Rattle.std.proofs.lemmas.List.{set-set, set_comm}
 use Rattle.entry_model.specs.State.{State}
 use Rattle.entry_model.specs.declared.receipt.Receipt.{Receipt}
 use Rattle.entry_model.specs.History.{Regrouped, twice}
@@ -13,7 +14,7 @@ use Rattle.lock_core.specs.Steps.{joined_actor}
 use Rattle.lock_core.specs.Runs.{receipts_of}
 use Rattle.lock_core.proofs.Kept.{IsOn, PhaseOk, Kept}
 use Rattle.lock_core.proofs.Moves.{same_receipts, set_receipts}
-use Rattle.lock_core.proofs.Lists.{at_set, set_else, set_found, set_again, set_twice, set_apart, same_at, none_some, in_append}
+use Rattle.lock_core.proofs.Lists.{at_set, set_else, set_found, set_again, same_at, none_some, in_append}
 
 -- The machine with other actors.
 abbrev pub with_actors : Machine → List Actor → Machine
@@ -117,7 +118,7 @@ module _ (opening : List State) (m : Machine) (log : List Receipt) (k : Kept ope
       let gone : slice_get less from ≡ Some nobody = set_found m.actors from b nobody at in
       let still : slice_get less i ≡ Some a = set_else m.actors from i nobody (λ e. other (sym e)) ∙
       me in
-      let back : set less from b ≡ m.actors = set_twice m.actors from nobody b ∙ set_again m.actors
+      let back : set less from b ≡ m.actors = set-set m.actors from nobody b ∙ set_again m.actors
       from b at in
       let before : Regrouped (receipts_of less ++ b.receipts) (receipts_of m.actors) = subst
       (λ l. Regrouped (receipts_of less ++ b.receipts) (receipts_of l)) back
@@ -126,7 +127,7 @@ module _ (opening : List State) (m : Machine) (log : List Receipt) (k : Kept ope
       (receipts_of (set less i (joined_actor a b))) = set_receipts less i a (joined_actor a b)
       b.receipts still (regrouped_self (a.receipts ++ b.receipts)) in
       subst (λ l. Regrouped (receipts_of m.actors) (receipts_of l))
-      (set_apart m.actors from i nobody (joined_actor a b) other)
+      (set_comm m.actors from i nobody (joined_actor a b) other)
       (twice (regrouped_back before) after)
 
   pub join_kept :

@@ -77,7 +77,7 @@ EveryReceiptKeepsItsFront =
     → made_by (run (opening_machine states actors) older) i step ≡ Some r
     → IsAhead (fronts_of (run_fronts (opening_machine states actors) older) i) r
 
--- And it stands behind the receipts that the actor has made.
+-- The receipt that a step makes stands behind those that its actor has made before.
 abbrev pub EveryReceiptIsListed : Type 0
 EveryReceiptIsListed =
     (m : Machine) (i : ℕ) (step : Step) (r : Receipt)

@@ -2,9 +2,10 @@
 use Rattle.std.specs.Prelude.{slice_get, slice_index_or}
 use Rattle.std.proofs.Common.{◌≡◌, ◌≢◌, ℕ, true, List, set, get_or, sym, ap, ◌∙◌, Some}
 use Rattle.std.proofs.lemmas.Option.{get_or_from_slice_get}
+use Rattle.std.proofs.lemmas.List.{set-set, set_comm}
 use Rattle.lock_core.specs.Machine.{Actor, nobody}
 use Rattle.lock_core.specs.Steps.{joined_actor}
-use Rattle.lock_core.proofs.Lists.{set_else, set_again, set_twice, set_apart}
+use Rattle.lock_core.proofs.Lists.{set_else, set_again}
 use Rattle.lock_core.proofs.Whole.{live_there}
 
 -- x stands at `from`, and y at i once z has come in x's place.
@@ -38,7 +39,7 @@ module _ (actors : List Actor) (i from : ℕ) (x y z : Actor)
       let j_is' : j ≡ joined_actor (slice_index_or actors i nobody)
       (slice_index_or actors from nobody) = j_is ∙
       (λ k. joined_actor (second k) ((o_is ∙ first) k)) in
-      (λ k. set (set actors from (z_is k)) i (j_is' k)) ∙ set_apart actors from i nobody _ apart
+      (λ k. set (set actors from (z_is k)) i (j_is' k)) ∙ set_comm actors from i nobody _ apart
 
   pub join_undone :
       (o j : Actor) → o ≡ x → j ≡ y → set (set (set actors from z) i j) from o ≡ actors
@@ -47,5 +48,5 @@ module _ (actors : List Actor) (i from : ℕ) (x y z : Actor)
       (λ v. set (set actors from z) i v) (j_is ∙ second) ∙ set_again (set actors from z) i _
       at_i in
       (λ k. set (same k) from ((o_is ∙ first) k))
-      ∙ set_twice actors from z _
+      ∙ set-set actors from z _
       ∙ set_again actors from _ at_from

@@ -54,7 +54,7 @@ same_moves table pending pool held =
 single_apart : (block : Block) → AllPairs BeginApart (block ∷ [])
 single_apart block i j d before inside = absurd (omega arith)
 
-held_is :
+pub held_is :
     (pending : Option PendingTable) (pool : PoolState)
     → All (Contains pool.taken) (pending_blocks pending)
     → IsHeld pending pool

@@ -17,8 +17,9 @@ use Rattle.trace_reply.specs.Replies.{RepliedLine, AreReplies, IsOfKind, lines_w
 use Rattle.run_model.specs.Stores.{Store, page_table, states_of, is_on, lines_on}
 use Rattle.run_model.specs.QuietLines.{run_quiet_line}
 use Rattle.run_model.specs.Quiet.{QuietPart, cut, cut_before}
-use Rattle.run_model.specs.Sections.{Section, sections_from, sections_of, section_of, section_end}
-use Rattle.run_model.specs.ShownStores.{ShowsChange, StoresAreShown, StaysShown, NoStoreIsLostIn, NoSetBitIsLostIn, ClearedBitsAreShown, carried_to, history_in, closing_state}
+use Rattle.entry_model.specs.History.{history}
+use Rattle.run_model.specs.Sections.{Section, made_in, sections_from, sections_of, section_of, section_end}
+use Rattle.run_model.specs.ShownStores.{ShowsChange, StoresAreShown, StaysShown, NoStoreIsLostIn, NoSetBitIsLostIn, ClearedBitsAreShown, carried_to, closing_state}
 use Rattle.run_model.specs.CommittedResizes.{commits_call, commits_by, is_committed, LeavesTable, ResizesKeepTranslations}
 use Rattle.run_model.specs.Landings.{AccessesLand, IsUnworn}
 use Rattle.run_model.specs.DeviceLandings.{DeviceLands}
@@ -138,7 +139,7 @@ stays_erased s entry (next ∷ rest) = λ i.
     (carried_to s next entry)
     (Unit {0})
     (λ target.
-    ShowsChange (history_in next target) (closing_state next target)
+    ShowsChange (history target (made_in next)) (closing_state next target)
     (stays_erased next target rest i))
 
 stores_erased : (ss : List Section) → NoStoreIsLostIn (map erased ss) ≡ NoStoreIsLostIn ss
@@ -146,7 +147,8 @@ stores_erased [] = refl
 stores_erased (s ∷ rest) = λ i.
     ((entry : ℕ)
     → entry < length (states_of s.before)
-    → StoresAreShown (history_in s entry) (closing_state s entry) (stays_erased s entry rest i))
+    → StoresAreShown (history entry (made_in s)) (closing_state s entry)
+    (stays_erased s entry rest i))
     × stores_erased rest i
 
 bits_erased : (ss : List Section) → NoSetBitIsLostIn (map erased ss) ≡ NoSetBitIsLostIn ss
@@ -155,7 +157,7 @@ bits_erased (s ∷ rest) = λ i.
     ((entry : ℕ)
     → (state_at (states_of s.before) entry).valid ≡ true
     → (state_at (states_of s.before) entry).changed ≡ true
-    → ShowsChange (history_in s entry) (closing_state s entry) (stays_erased s entry rest i))
+    → ShowsChange (history entry (made_in s)) (closing_state s entry) (stays_erased s entry rest i))
     × bits_erased rest i
 
 -- ---- committed resizes

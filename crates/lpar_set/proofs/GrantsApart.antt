@@ -1,9 +1,10 @@
 -- Grants of two partitions that don't meet, while one of them gets another.
 use Rattle.std.specs.List.{AllByRecursion, AllPairs}
-use Rattle.std.proofs.Common.{◌≡◌, ◌≢◌, ℕ, ◌+◌, ◌<◌, ◌≤◌, Bool, true, false, List, ◌∷◌, length, get_or, filter, slice_set, Option, None, refl, sym, ap, ◌∙◌, subst, inl, inr, ◌⊎◌, ltb, ◌&&◌, not, arith}
+use Rattle.std.proofs.Common.{◌≡◌, ◌≢◌, ℕ, ◌<◌, ◌≤◌, Bool, true, false, List, ◌∷◌, length, get_or, filter, slice_set, Option, None, sym, ap, ◌∙◌, subst, inl, inr, ◌⊎◌, not, arith}
 use Rattle.std.proofs.lemmas.Bool.{cases_eq, cases_lt, not-true}
 use Rattle.std.proofs.lemmas.List.{get_or-set_same, get_or-set_other, length-set}
 use Rattle.std.proofs.lemmas.List.Elements.{All-from_recursion, recursion_from_All, All-append, All-cons, All-filter}
+use Rattle.frame_grants.proofs.Accepting.{machine_back}
 use Rattle.basics.proofs.Lists.{list_any-false}
 use Rattle.frame_grants.specs.declared.grant.Grant.{Grant}
 use Rattle.frame_grants.specs.Grants.{GrantedMemory, meets_machine, starts_below, with_grant}
@@ -59,16 +60,6 @@ pairs_both R xs back pairs i j d other low high = by (cases_lt i j) where
   by (inr behind) = back _ _ (pairs j i d (omega (arith, behind, other)) low)
 
 -- ---- two grants
-and_back : (a b : Bool) → (a && b) ≡ false → (b && a) ≡ false
-and_back true b h = rw h refl
-and_back false true h = refl
-and_back false false h = refl
-
-machine_back : (g other : Grant) → meets_machine g other ≡ false → meets_machine other g ≡ false
-machine_back g other h =
-    and_back (ltb g.machine (other.machine + other.length))
-    (ltb other.machine (g.machine + g.length)) h
-
 -- Grants that don't meet do not meet the other way round.
 pub strangers_back : (gs hs : List Grant) → AreStrangers gs hs → AreStrangers hs gs
 strangers_back gs hs apart =

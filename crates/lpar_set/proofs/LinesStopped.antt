@@ -1,8 +1,9 @@
 -- A line that the set has something against is not accepted.
 use Rattle.std.specs.Prelude.{codes, is_some}
-use Rattle.std.proofs.Common.{◌≡◌, ◌∙◌, ℕ, ◌<◌, Bool, true, false, List, [], ◌∷◌, length, Option, Some, None, Result, Ok, Err, refl, sym, ap, subst, if◌then◌else◌, ltb, not, inl, inr, ◌⊎◌, arith}
+use Rattle.std.proofs.Common.{◌≡◌, ◌∙◌, ℕ, ◌<◌, true, false, List, [], ◌∷◌, length, Option, Some, None, Result, Ok, Err, refl, sym, ap, subst, ltb, not, inl, inr, ◌⊎◌, arith}
 use Rattle.std.proofs.lemmas.Bool.{both_ways, cases_Bool, eqb-true, false≢true, lt-ltb, not-true}
 use Rattle.std.proofs.lemmas.Slice.Eq.{bytes_eq-Decides}
+use Rattle.hpt_hash.proofs.PageLemmas.{if_some}
 use Rattle.frame_grants.specs.declared.grant.Grant.{Grant}
 use Rattle.hpt_pool.specs.Pool.{lowest_place}
 use Rattle.trace_read.specs.declared.forms.Form.{Form}
@@ -254,13 +255,6 @@ never_full r s ws number (takes_member other new below words plain named own qui
     (ap (with_given (counted r) other (reading_of r other) new) (sym begin.is) ∙ e)
     (ap (lowest_place r.tables) opened.order ∙ here)
 
-begun_parts :
-    (test : Bool) (o : Option ℕ) (number : ℕ)
-    → (if test then o else None) ≡ Some number
-    → (test ≡ true) × (o ≡ Some number)
-begun_parts true o number e = (refl, e)
-begun_parts false o number e = absurd (cc)
-
 -- ---- a line
 taken_never :
     (before : List (List ℕ)) (r s : SetReading) (line : List ℕ) (why : Why)
@@ -296,7 +290,7 @@ taken_never before r s line why is taken
       meets = meets;
     }))
 taken_never before r s line why is taken (full number mine none) =
-    let parts = begun_parts (is_begin (own_form line)) (first_number (words_in line)) number mine in
+    let parts = if_some (is_begin (own_form line)) (first_number (words_in line)) number mine in
     never_full r s (words_in line) number taken.takes parts.0 parts.1
     (λ below. sym (place_is before r number is below) ∙ none)
 

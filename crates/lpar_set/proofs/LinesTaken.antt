@@ -2,11 +2,11 @@
 use Rattle.std.specs.Prelude.{codes, is_some}
 use Rattle.std.specs.List.{list_all}
 use Rattle.std.specs.Str.{bytes_eq}
-use Rattle.std.proofs.Common.{◌≡◌, ◌∙◌, ℕ, ◌+◌, ◌<◌, Bool, true, false, List, [], ◌∷◌, ◌++◌, length, slice_set, Option, Some, None, Result, Ok, Err, refl, sym, subst, if◌then◌else◌, ltb, not, ◌&&◌, ◌||◌, inl, inr, ◌⊎◌, arith}
+use Rattle.std.proofs.Common.{◌≡◌, ◌∙◌, ℕ, ◌+◌, ◌<◌, Bool, true, false, List, [], ◌∷◌, ◌++◌, length, slice_set, Option, Some, None, Result, Ok, Err, refl, sym, subst, if◌then◌else◌, ltb, not, ◌&&◌, ◌||◌, inl, inr, ◌⊎◌, arith, ap}
 use Rattle.std.proofs.lemmas.Bool.{cases_Bool, eqb-true, false≢true, ltb-true, lt-ltb, not-true}
 use Rattle.std.proofs.lemmas.List.{append-nil, length_push}
 use Rattle.frame_grants.specs.declared.grant.Grant.{Grant}
-use Rattle.hpt_pool.specs.Pool.{lowest_place}
+use Rattle.hpt_pool.specs.Pool.{lowest_place, PoolState}
 use Rattle.trace_read.specs.declared.forms.Form.{Form}
 use Rattle.trace_read.specs.declared.forms.Form.TheVariants as forms
 use Rattle.trace_read.specs.declared.given.Given.{Given}
@@ -22,7 +22,7 @@ use Rattle.trace_read.specs.Settings.{grant_named, pool_named}
 use Rattle.trace_read.specs.TextLines.{without_cr, is_printable, words_of, is_remark}
 use Rattle.lpar_set.specs.declared.turn.Turn.{Turn}
 use Rattle.lpar_set.specs.PartitionLines.{words_in, is_shared, first_number, own_words, is_begin, is_run}
-use Rattle.lpar_set.specs.SetGrammar.{SetReading, after_allowed, after_member, after_numbered_words, after_own, after_set_line, after_set_words, below_8, is_of_the_whole, meets_stranger, partition_named, reading_of, set_beside, with_given, with_shared}
+use Rattle.lpar_set.specs.SetGrammar.{SetReading, after_allowed, after_member, after_numbered_words, after_own, after_set_line, after_set_words, below_8, is_of_the_whole, meets_stranger, partition_named, reading_of, set_beside, with_given, with_shared, with_reading}
 use Rattle.lpar_set.proofs.LineMoves.{HasMoved}
 use Rattle.lpar_set.proofs.OwnLines.{is_run as gives_run, granted_no_run}
 use Rattle.lpar_set.proofs.RunsKept.{next_turn}
@@ -30,7 +30,8 @@ use Rattle.lpar_set.proofs.SetLinesKept.{named_below}
 use Rattle.lpar_set.proofs.SetReadingsKept.{retaken}
 use Rattle.lpar_set.proofs.TakenSteps.{behind_guard, never_ok, required_taken, same_ok, steps_taken}
 use Rattle.trace_line.specs.Lines.{most_lines}
-use Rattle.std.proofs.Math.Bool.{or-true}
+use Rattle.std.proofs.Math.Bool.{or-true, or-false}
+use Rattle.lpar_set.specs.OpeningTables.{with_opening}
 
 -- The set once a line is counted.
 abbrev pub counted : SetReading → SetReading
@@ -215,12 +216,42 @@ pub record IsAdded (r : SetReading) (number : ℕ) (new : Reading) (given : Give
   pub turns : s.turns ≡ r.turns ++ turn_if (gives_run given) (next_turn r number)
   pub turned : ltb 0 (length s.turns) ≡ (ltb 0 (length r.turns) || gives_run given)
 
-append_none : {A : Type 0} (xs : List A) → xs ≡ xs ++ []
-append_none xs = sym (append-nil xs)
+turned_by :
+    (runs : Bool) (turns : List Turn) (turn : Turn)
+    → ltb 0 (length (turns ++ turn_if runs turn)) ≡ (ltb 0 (length turns) || runs)
+turned_by false turns turn = rw (append-nil turns) (sym (or-false _))
+turned_by true turns turn = lt-ltb 0 _ (omega (arith, length_push turns turn)) ∙ sym (or-true _)
 
-or_no : (b : Bool) → b ≡ (b || false)
-or_no true = refl
-or_no false = refl
+-- The new reading, with what the line adds to the partitions that began and to the turns.
+reading_added :
+    (r : SetReading) (number : ℕ) (new : Reading) (given : Given) (begun : List ℕ)
+    (tables : PoolState) (turns : List Turn)
+    → begun ≡ r.begun ++ begun_if (gives_begin given) number
+    → turns ≡ r.turns ++ turn_if (gives_run given) (next_turn r number)
+    → IsAdded r number new given
+    (record (with_reading r number new) { begun = begun; tables = tables; turns = turns })
+reading_added r number new given begun tables turns begins runs = record {
+  taken = refl;
+  untouched = refl;
+  base = refl;
+  order = refl;
+  readings = refl;
+  begun = begins;
+  turns = runs;
+  turned =
+      ap (λ ts. ltb 0 (length ts)) runs
+      ∙ turned_by (gives_run given) r.turns (next_turn r number);
+}
+
+-- A line that begins no partition and isn't one of a run adds its reading alone.
+nothing_more :
+    (r : SetReading) (number : ℕ) (new : Reading) (given : Given)
+    → gives_begin given ≡ false
+    → gives_run given ≡ false
+    → IsAdded r number new given (with_reading r number new)
+nothing_more r number new given no_begin no_run =
+    reading_added r number new given r.begun r.tables r.turns
+    (rw no_begin (sym (append-nil r.begun))) (rw no_run (sym (append-nil r.turns)))
 
 added :
     (r s : SetReading) (number : ℕ) (new : Reading) (given : Given)
@@ -229,69 +260,23 @@ added :
 unfolding with_given
 added r s number new givens.Remark e =
     subst (IsAdded r number new givens.Remark) (same_ok _ _ _ refl e)
-    (record {
-      taken = refl;
-      untouched = refl;
-      base = refl;
-      order = refl;
-      readings = refl;
-      begun = append_none r.begun;
-      turns = append_none r.turns;
-      turned = or_no _;
-    })
+    (nothing_more r number new givens.Remark refl refl)
 added r s number new givens.Setting e =
     subst (IsAdded r number new givens.Setting) (same_ok _ _ _ refl e)
-    (record {
-      taken = refl;
-      untouched = refl;
-      base = refl;
-      order = refl;
-      readings = refl;
-      begun = append_none r.begun;
-      turns = append_none r.turns;
-      turned = or_no _;
-    })
+    (nothing_more r number new givens.Setting refl refl)
 added r s number new (givens.Grant grant) e =
     let passed = behind_guard (not (meets_stranger r number grant)) whys.Overlap _ s e in
     subst (IsAdded r number new (givens.Grant grant)) (same_ok _ _ _ refl passed.rest)
-    (record {
-      taken = refl;
-      untouched = refl;
-      base = refl;
-      order = refl;
-      readings = refl;
-      begun = append_none r.begun;
-      turns = append_none r.turns;
-      turned = or_no _;
-    })
+    (nothing_more r number new (givens.Grant grant) refl refl)
 added r s number new (givens.Begin order) e =
     let passed = behind_guard (is_some (lowest_place r.tables order)) whys.Small _ s e in
     subst (IsAdded r number new (givens.Begin order)) (same_ok _ _ _ refl passed.rest)
-    (record {
-      taken = refl;
-      untouched = refl;
-      base = refl;
-      order = refl;
-      readings = refl;
-      begun = refl;
-      turns = append_none r.turns;
-      turned = or_no _;
-    })
+    (reading_added r number new (givens.Begin order) (r.begun ++ number ∷ [])
+    (with_opening r.tables order) r.turns refl (sym (append-nil r.turns)))
 added r s number new givens.Run e =
-    let size = length_push r.turns (next_turn r number) in
-    let more : ltb 0 (length (r.turns ++ next_turn r number ∷ [])) ≡ true = lt-ltb 0 _
-    (omega (arith, size)) in
     subst (IsAdded r number new givens.Run) (same_ok _ _ _ refl e)
-    (record {
-      taken = refl;
-      untouched = refl;
-      base = refl;
-      order = refl;
-      readings = refl;
-      begun = append_none r.begun;
-      turns = refl;
-      turned = more ∙ sym (or-true _);
-    })
+    (reading_added r number new givens.Run r.begun r.tables
+    (r.turns ++ next_turn r number ∷ []) (sym (append-nil r.begun)) refl)
 
 -- ---- what forms give
 granted_begins : (said : Result Grant Why) → gives_begin (given_grant said) ≡ false

@@ -2,11 +2,10 @@
 use Rattle.std.specs.Prelude.{unwrap_or}
 use Rattle.std.specs.List.{AllByRecursion}
 use Rattle.std.proofs.Common.{◌≡◌, ◌≢◌, ℕ, ◌≤◌, false, List, [], ◌∷◌, ◌++◌, All, Contains, map, get_or, Option, Some, None, refl, sym, ap, ◌∙◌, subst, append_assoc, append-nil, arith}
-use Rattle.std.proofs.lemmas.Bool.Decides.{nat_tests}
 use Rattle.std.proofs.lemmas.List.Elements.{All-nil, All-cons, All-append, All-contains, All-weaker}
 use Rattle.hpt_pool.specs.Pool.{Block, PoolState, IsSound, block_at, overlap, lowest_place}
 use Rattle.hpt_pool.proofs.Kept.{with_contains, with_keeps}
-use Rattle.hpt_pool.proofs.Placing.{size_above, fits_in, sound_with}
+use Rattle.hpt_pool.proofs.Placing.{fits_in, sound_with, apart_places}
 use Rattle.hpt_resize.proofs.Holding.{lowest_fits}
 use Rattle.hpt_resize.proofs.OpeningStates.{opening-length}
 use Rattle.trace_read.specs.Configuration.{Configuration}
@@ -16,13 +15,6 @@ use Rattle.lpar_set.specs.SetRun.{MemberState, opening_table, opening_member, op
 use Rattle.lpar_set.specs.SetStates.{IsMember, held_blocks}
 use Rattle.lpar_set.proofs.BlocksApart.{BeginApart, AreHeld, pairs_append}
 use Rattle.hpte_fields.specs.TableSize.{greatest_order, least_order}
-
--- Blocks that share no address begin at two places.
-apart_places : (block other : Block) → overlap block other ≡ false → BeginApart block other
-apart_places block other clear =
-    let size = size_above block in
-    let other_size = size_above other in
-    λ same. grind (arith, nat_tests, clear, same)
 
 -- ---- one further block
 -- A block that a pool has room for is taken, and begins apart from all that were taken.

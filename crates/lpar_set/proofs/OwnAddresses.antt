@@ -1,9 +1,11 @@
 -- Each access of a partition that is allowed lands at a machine address of the partition's own.
-use Rattle.std.proofs.Common.{◌≡◌, ◌≢◌, ℕ, zero, suc, ◌<◌, ◌≤◌, ◌==◌, List, [], ◌∷◌, true, false, Contains, Some, map, get_or, set, length, refl, sym, ap, subst, ◌∙◌, ◌⊎◌, inl, inr, arith}
+use Rattle.std.proofs.Common.{◌≡◌, ◌≢◌, ℕ, zero, suc, ◌<◌, ◌≤◌, ◌==◌, List, [], ◌∷◌, true, false, Contains, Some, map, get_or, length, refl, sym, ap, subst, ◌∙◌, ◌⊎◌, inl, inr, arith}
 use Rattle.std.specs.List.{AllByRecursion}
 use Rattle.std.proofs.lemmas.Bool.{cases_Bool, cases_lt, eqb-true}
 use Rattle.std.proofs.lemmas.Bool.Decides.{nat_tests}
 use Rattle.std.proofs.lemmas.List.Elements.{All-contains, All-from_recursion, All-get_or}
+use Rattle.std.proofs.Math.Seq.{map-set_same}
+use Rattle.frame_grants.proofs.Accepting.{machine_back}
 use Rattle.hpt_pool.specs.Pool.{PoolState, no_blocks}
 use Rattle.frame_grants.specs.declared.grant.Grant.{Grant}
 use Rattle.frame_grants.specs.declared.grant.Kind.{Kind}
@@ -25,14 +27,6 @@ use Rattle.lpar_set.proofs.LineReplies.{IsGranted, IsGrantedReply, line_reply}
 use Rattle.trace_reply.specs.declared.reply.Reply.TheVariants as replies
 
 -- ---- lists
-set_same :
-    {A B : Type 0} (f : A → B) (xs : List A) (k : ℕ) (d x : A)
-    → f x ≡ f (get_or xs k d)
-    → map f (set xs k x) ≡ map f xs
-set_same f [] k d x same = refl
-set_same f (y ∷ ys) zero d x same = ap (λ z. z ∷ map f ys) same
-set_same f (y ∷ ys) (suc k) d x same = ap (λ zs. f y ∷ zs) (set_same f ys k d x same)
-
 at_map :
     {A B : Type 0} (f : A → B) (xs : List A) (k : ℕ) (d : A)
     → f (get_or xs k d) ≡ get_or (map f xs) k (f d)
@@ -69,7 +63,7 @@ pub grants_stay :
     → HasGrants s (set_line w k l).1
 grants_stay s w k l has =
     let after = (run_on (with_pool w.pool (member_at w k)) l).1 in
-    set_same grants_of w.members k no_member (without_pool after)
+    map-set_same grants_of w.members k (without_pool after) no_member
     (line_reply (with_pool w.pool (member_at w k)) l refl).1
     ∙ has
 
@@ -101,14 +95,6 @@ no_shared :
     → meets_machine one two ≡ false
     → ⊥
 no_shared address one two first second apart = grind (arith, nat_tests, first, second, apart)
-
-no_shared_back :
-    (address : ℕ) (one two : Grant)
-    → range_within address 1 one.machine one.length ≡ true
-    → IsInGrant address two
-    → meets_machine two one ≡ false
-    → ⊥
-no_shared_back address one two first second apart = grind (arith, nat_tests, first, second, apart)
 
 strange :
     (s : AcceptedSet)
@@ -148,7 +134,8 @@ strange s is k address own inside here within other g exists differs there in_gr
       at (inl less) more =
           no_shared address own g within in_grant (apart k other own g less exists here there)
       at less (inl more) =
-          no_shared_back address own g within in_grant (apart other k g own more inside there here)
+          no_shared address own g within in_grant
+          (machine_back g own (apart other k g own more inside there here))
       at (inr low) (inr high) = differs (omega arith)
 
 own_address :

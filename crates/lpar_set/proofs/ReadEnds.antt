@@ -4,7 +4,8 @@ use Rattle.std.specs.List.{AllByRecursion, AllPairs, list_all, list_any}
 use Rattle.std.proofs.Common.{◌≡◌, ◌≢◌, ◌∙◌, ℕ, ◌+◌, ◌<◌, ◌≤◌, true, List, [], ◌∷◌, ◌++◌, length, map, take, get_or, slice_set, Option, None, Ok, refl, sym, ap, subst, ◌&&◌, inl, inr, ◌⊎◌, arith}
 use Rattle.std.proofs.lemmas.Bool.{false≢true, cases_lt}
 use Rattle.std.proofs.lemmas.List.{get_or_default, get_or_past, get_or-set_other, length-set, map-append, take_more}
-use Rattle.std.proofs.lemmas.List.Elements.{All-from_recursion, recursion_from_All, All-get_or, All-push}
+use Rattle.std.proofs.lemmas.List.Elements.{All-from_recursion, recursion_from_All, All-push}
+use Rattle.basics.proofs.Each.{each_within}
 use Rattle.trace_read.specs.Grammar.{Reading, opening_reading, reading_beside}
 use Rattle.trace_read.specs.Places.{is_running}
 use Rattle.trace_read.specs.Trace.{IsAccepted}
@@ -36,15 +37,6 @@ pub record AreLeft (all now : List (Option Reading)) (begun : List ℕ) (i : ℕ
       → get_or now (get_or begun k 0) None ≡ get_or all (get_or begun k 0) None
   pub same : length now ≡ length all
 
-running_here :
-    (all : List (Option Reading)) (begun : List ℕ) (i : ℕ) (other : Reading)
-    → i < length begun
-    → AllByRecursion (IsRunningAt all other) begun
-    → IsRunningAt all other (get_or begun i 0)
-running_here all begun i other inside running =
-    All-get_or (IsRunningAt all other) begun i 0 inside
-    (All-from_recursion (IsRunningAt all other) begun running)
-
 -- The next number is one of the list's places.
 pub taken_inside :
     (all now : List (Option Reading)) (begun : List ℕ) (i index : ℕ)
@@ -55,7 +47,7 @@ pub taken_inside :
     → index < length now
 taken_inside all now begun i index left inside is running =
     let within : get_or begun i 0 < length all = running_inside all (get_or begun i 0)
-    (running_here all begun i opening_reading inside (running opening_reading)) in
+    (each_within (IsRunningAt all opening_reading) begun i 0 (running opening_reading) inside) in
     omega (arith, left.same, is, within)
 
 -- What is taken out for it is its reading.
@@ -84,7 +76,7 @@ pub taken_running :
     → is_running (unwrap_or o other).stage ≡ true
 taken_running all begun i o inside is running other =
     subst (λ (x : Option Reading). is_running (unwrap_or x other).stage ≡ true) (sym is)
-    (running_here all begun i other inside (running other))
+    (each_within (IsRunningAt all other) begun i 0 (running other) inside)
 
 -- ---- one partition more
 -- The readings of the numbers behind it are still there.

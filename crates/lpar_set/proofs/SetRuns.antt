@@ -2,7 +2,7 @@
 use Rattle.std.specs.Prelude.{slice_index}
 use Rattle.std.proofs.Common.{◌≡◌, ◌≢◌, ◌⊎◌, inl, inr, ℕ, zero, suc, ◌+◌, ◌<◌, ◌≤◌, eqb, true, false, List, [], ◌∷◌, ◌++◌, length, get_or, slice_set, drop, Contains, refl, ap, sym, ◌∙◌, subst, append_assoc, arith}
 use Rattle.std.proofs.lemmas.Bool.{cases_Bool, eqb-true, eq-eqb}
-use Rattle.std.proofs.lemmas.List.{at_drop_more, get_or_default, get_or-set_same, get_or-set_other, length-set, length-replicate}
+use Rattle.std.proofs.lemmas.List.{at_drop_more, get_or-set_same, get_or-set_other, length-set, length-replicate}
 use Rattle.frame_grants.specs.Grants.{GrantedMemory}
 use Rattle.hpt_pool.specs.Pool.{PoolState, no_blocks}
 use Rattle.papr_codes.specs.Hcalls.{hcall_of}
@@ -176,10 +176,6 @@ opening_ready s =
     }
 
 -- ---- the next turn
-pub turn_here :
-    (turns : List Turn) (i : ℕ) (d : Turn) → i < length turns → Contains turns (get_or turns i d)
-turn_here turns i d inside = (i, inside, get_or_default turns i (get_or turns i d) d inside)
-
 -- The turn's partition and the processor of its line are there, and the table's number is at most
 -- n.
 pub record MayRun (s : AcceptedSet) (w : SetState) (n : ℕ) (t : Turn) : Type 0 where

@@ -1,9 +1,9 @@
 -- A line of one partition of a set, and what it leaves of all.
-use Rattle.std.proofs.Common.{◌≡◌, ℕ, ◌<◌, List, [], length, slice_set, Contains, All, Option, Some, None, Result, Ok, Err, OnOk, OnErr, sym, ap, ◌∙◌, subst}
+use Rattle.std.proofs.Common.{◌≡◌, ℕ, ◌<◌, List, length, slice_set, Contains, Result, Ok, Err, OnOk, OnErr, sym, ap, ◌∙◌, subst}
 use Rattle.std.proofs.lemmas.List.{set-get_or}
 use Rattle.std.proofs.lemmas.List.Elements.{All-head, All-tail}
+use Rattle.lpar_set.proofs.CallBlocks.{held_is}
 use Rattle.hpt_pool.specs.Pool.{PoolState, no_blocks, block_at}
-use Rattle.hpt_resize.specs.Pending.{PendingTable}
 use Rattle.hpt_resize.specs.Resize.{IsHeld}
 use Rattle.trace_line.specs.declared.line.TraceLine.{TraceLine}
 use Rattle.trace_reply.specs.declared.reply.Reply.{Reply}
@@ -26,14 +26,6 @@ own_taken w k is inside =
     All-head (Contains w.pool.taken) (block_at m.table.place m.table.order)
     (pending_blocks m.pending) (own_held w k is inside).held
 
-pending_held :
-    (pool : PoolState) (pending : Option PendingTable)
-    → All (Contains pool.taken) (pending_blocks pending)
-    → IsHeld pending pool
-pending_held pool None held = tt
-pending_held pool (Some table) held =
-    All-head (Contains pool.taken) (block_at table.place table.order) [] held
-
 pub own_pending :
     (w : SetState) (k : ℕ)
     → IsSetState w
@@ -41,7 +33,7 @@ pub own_pending :
     → IsHeld (member_at w k).pending w.pool
 own_pending w k is inside =
     let m = member_at w k in
-    pending_held w.pool m.pending
+    held_is m.pending w.pool
     (All-tail (Contains w.pool.taken) (block_at m.table.place m.table.order)
     (pending_blocks m.pending) (own_held w k is inside).held)
 

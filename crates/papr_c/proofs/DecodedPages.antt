@@ -1,14 +1,14 @@
 -- The page of doublewords at an index, and the first cause where there is none.
-use Rattle.std.specs.Prelude.{IsSome, IsSomeAnd, ◌↔◌, is_some, if◌then◌else◌}
+use Rattle.std.specs.Prelude.{IsSome, IsSomeAnd, ◌↔◌, is_some}
 use Rattle.std.specs.Option.{option_map_or}
-use Rattle.std.proofs.Common.{◌≡◌, ℕ, ◌<◌, ◌^◌, Bool, true, false, Option, Some, None, ap, sym, ◌∙◌, refl, subst, ◌⊎◌, inl, inr}
+use Rattle.std.proofs.Common.{◌≡◌, ℕ, ◌<◌, ◌^◌, true, false, Option, Some, None, ap, sym, ◌∙◌, refl, subst, ◌⊎◌, inl, inr}
 use Rattle.std.proofs.lemmas.Bool.{cases_Bool, true≢false, false≢true}
 use Rattle.power_addr.specs.Pages.{VirtualPage}
 use Rattle.page_sizes.specs.declared.size.PageSize.{PageSize}
 use Rattle.page_sizes.specs.Sizes.{size_of}
 use Rattle.hpte_fields.specs.Fields.{is_valid}
 use Rattle.hpt_hash.specs.Entries.{page_at}
-use Rattle.hpt_hash.proofs.PageLemmas.{page_at-sound}
+use Rattle.hpt_hash.proofs.PageLemmas.{page_at-sound, if_some}
 use Rattle.papr_c.specs.declared.decoding.NoPage.{NoPage}
 use Rattle.papr_c.specs.declared.decoding.NoPage.TheVariants.{Empty, NoSize, NoSegment, OtherGroup, NoIndex}
 use Rattle.papr_c.specs.declared.decoding.PaprPage.{PaprPage}
@@ -206,13 +206,6 @@ no_cause_at_pages order ptex dword0 dword1 range = at (here order ptex dword0 dw
     λ e. absurd (false≢true (subst (λ (o : Option VirtualPage). is_some o ≡ true) h.0 e)),
   )
 
-inside_here :
-    (inside : Bool) (o : Option VirtualPage) (p : VirtualPage)
-    → (if inside then o else None) ≡ Some p
-    → o ≡ Some p
-inside_here true o p e = e
-inside_here false o p e = cc
-
 base_with_page :
     (said : PaprPage) (o : Option VirtualPage) → (with_page said o).base_shift ≡ said.base_shift
 base_with_page said None = refl
@@ -239,7 +232,7 @@ pub base_of_page :
     → (decoded order ptex dword0 dword1).base_shift ≡ p.shift
 base_of_page order ptex dword0 dword1 p range is =
     let sound = page_at-sound order ptex dword0 dword1 p range
-    (inside_here (is_index order ptex) (page_at order ptex dword0 dword1) p is) in
+    (if_some (is_index order ptex) (page_at order ptex dword0 dword1) p is).1 in
     let sized = some_size (size_of dword0 dword1) p.shift sound.1.size in
     base_with_page (words_said dword0 dword1 (why_of order ptex dword0 dword1))
     (page_here order ptex dword0 dword1)

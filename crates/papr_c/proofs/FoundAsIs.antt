@@ -1,13 +1,13 @@
 -- What a walk of entries finds, by each of them as it is.
-use Rattle.std.specs.Prelude.{map, slice_set}
-use Rattle.std.proofs.Common.{◌≡◌, ℕ, ◌+◌, ◌*◌, List, [], ◌∷◌, drop, Bool, true, false, Option, Some, None, refl, ap, sym, subst, ◌∙◌, ◌⊎◌, inl, inr}
-use Rattle.std.specs.List.{AllByRecursion, range_with_len}
+use Rattle.std.specs.Prelude.{slice_set}
+use Rattle.std.proofs.Common.{◌≡◌, ℕ, ◌+◌, List, [], ◌∷◌, drop, true, false, Option, Some, None, refl, ap, sym, subst, ◌∙◌, ◌⊎◌, inl, inr}
+use Rattle.std.specs.List.{AllByRecursion}
 use Rattle.std.proofs.lemmas.Bool.{cases_Bool}
 use Rattle.std.proofs.Math.Numerals.{add-one}
 use Rattle.std.proofs.lemmas.List.{set-get_or}
+use Rattle.hpt_walk.proofs.Unchanged.{calls_access}
 use Rattle.storage_prot.specs.declared.want.Want.{Want}
 use Rattle.power_addr.specs.Pages.{VirtualPage}
-use Rattle.hpt_hash.specs.Hash.{group_of}
 use Rattle.entry_model.specs.State.{State, empty_state}
 use Rattle.entry_model.specs.declared.operation.Op.{Op}
 use Rattle.entry_model.specs.declared.receipt.Receipt.{Receipt}
@@ -15,7 +15,7 @@ use Rattle.entry_model.specs.Receipt.{after_of, is_access, is_no_match, found_of
 use Rattle.entry_model.specs.Run.{states_after}
 use Rattle.entry_model.specs.Trial.{Call, call, receipt_at, trial_run}
 use Rattle.entry_model.proofs.OperationLaws.{access_undone}
-use Rattle.hpt_walk.specs.Walk.{access_op, group_calls, walk_calls}
+use Rattle.hpt_walk.specs.Walk.{walk_calls}
 use Rattle.hpt_walk.proofs.Found.{found-on, found-off}
 use Rattle.c_layout.specs.declared.walking.PaprAccess.{PaprAccess}
 use Rattle.c_layout.specs.declared.walking.PaprWalk.{PaprWalk}
@@ -24,7 +24,6 @@ use Rattle.c_layout.specs.WalkEnds.{mode_of, walk_end}
 use Rattle.papr_c.specs.Walks.{each_as_is, walk_run, outcome_of_probe}
 use Rattle.c_layout.specs.Accesses.{page_of, want_of}
 use Rattle.entry_model.specs.Calls.{call_at}
-use Rattle.basics.proofs.Each.{each_append}
 use Rattle.papr_c.proofs.SoFar.{drop_at, drop_none, step_on, step_off, no_more}
 use Rattle.entry_model.proofs.Trials.{no_match_not_at}
 
@@ -60,24 +59,6 @@ found_as_is a (c ∷ cs) all = at (cases_Bool (is_no_match r.answer)) (found_as_
       ∙ sym (found-off r (each_as_is a cs) off)
 
 -- ---- the calls of a walk
-all_accesses :
-    (page : VirtualPage) (a : PaprAccess) (want : Want) (secondary : Bool) (es : List ℕ)
-    → AllByRecursion (λ (c : Call). is_access c.op ≡ true)
-    (map (call (access_op page (mode_of a want) secondary)) es)
-all_accesses page a want secondary [] = tt
-all_accesses page a want secondary (e ∷ es) = (refl, all_accesses page a want secondary es)
-
-walk_accesses :
-    (order : ℕ) (a : PaprAccess) (page : VirtualPage) (want : Want)
-    → AllByRecursion (λ (c : Call). is_access c.op ≡ true) (walk_calls order page (mode_of a want))
-unfolding walk_calls
-walk_accesses order a page want =
-    each_append (λ (c : Call). is_access c.op ≡ true)
-    (group_calls (access_op page (mode_of a want) false) (group_of page order false))
-    (group_calls (access_op page (mode_of a want) true) (group_of page order true))
-    (all_accesses page a want false (range_with_len (group_of page order false * 8) 8))
-    (all_accesses page a want true (range_with_len (group_of page order true * 8) 8))
-
 -- What a walk finds, of entries as they are.
 pub probed :
     (order : ℕ) (a : PaprAccess) (page : VirtualPage) (want : Want) (entries : List State)
@@ -88,7 +69,7 @@ probed order a page want entries cs is =
     ap (λ (ds : List Call). found_of (each_as_is entries ds)) is
     ∙ sym
     (found_as_is entries (walk_calls order page (mode_of a want))
-    (walk_accesses order a page want))
+    (calls_access order page (mode_of a want)))
 
 -- What is told of it is what a probe tells.
 pub probe_is :
@@ -177,5 +158,5 @@ pub found_access :
     → is_access r.op ≡ true
 found_access order a page want entries r found =
     found_of_access entries (walk_calls order page (mode_of a want)) r
-    (walk_accesses order a page want)
+    (calls_access order page (mode_of a want))
     (probed order a page want entries (walk_calls order page (mode_of a want)) refl ∙ found)

@@ -1,6 +1,6 @@
 -- Entries that are lent: what is read of one, and what it is to give one another state.
 use Rattle.std.specs.Prelude.{◌&&◌, ◌==◌, nat_le}
-use Rattle.std.proofs.Common.{◌≡◌, ℕ, Bool, true, false, zero, suc, ◌+◌, ◌-◌, ◌<◌, List, [], ◌∷◌, length, set, get_or, take, drop, ◌++◌, refl, sym, ap, subst, ◌∙◌, arith}
+use Rattle.std.proofs.Common.{◌≡◌, ℕ, Bool, true, false, zero, suc, ◌+◌, ◌<◌, List, [], ◌∷◌, length, set, get_or, take, drop, ◌++◌, refl, sym, ap, subst, ◌∙◌, arith}
 use Rattle.std.proofs.lemmas.List.{get_or-map, set-get_or, drop_more}
 use Rattle.std.proofs.lemmas.Bool.{leb-true}
 use Rattle.std.proofs.Math.Numerals.{add-one}
@@ -140,20 +140,6 @@ same_rest old new i d inside inside_new rest =
     let one = drop_more old i d inside in
     let two = drop_more new i d inside_new in
     let both : get_or new i d ∷ drop (i + 1) new ≡ get_or old i d ∷ drop (i + 1) old =
-    sym two ∙ rest ∙ one in
-    cc
-
-pub same_rest_on :
-    (old new : List Entry) (i : ℕ)
-    → i < length old
-    → i < length new
-    → drop i new ≡ drop i old
-    → drop (i + 1) new ≡ drop (i + 1) old
-same_rest_on old new i inside inside_new rest =
-    let one = drop_more old i no_entry inside in
-    let two = drop_more new i no_entry inside_new in
-    let both :
-    get_or new i no_entry ∷ drop (i + 1) new ≡ get_or old i no_entry ∷ drop (i + 1) old =
     sym two ∙ rest ∙ one in
     cc
 

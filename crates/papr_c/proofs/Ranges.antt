@@ -1,26 +1,14 @@
 -- Entries of which those from one index up to another one are changed.
 use Rattle.std.specs.Prelude.{map}
-use Rattle.std.proofs.Common.{◌≡◌, ℕ, zero, suc, ◌+◌, ◌-◌, ◌<◌, ◌≤◌, List, [], ◌∷◌, ◌++◌, length, take, drop, set, get_or, replicate, refl, sym, ap, ◌∙◌, arith, append-nil, length-drop}
-use Rattle.std.proofs.lemmas.List.{length-map, get_or-map, take_all, drop_all}
+use Rattle.std.proofs.Common.{◌≡◌, ℕ, zero, suc, ◌+◌, ◌-◌, ◌<◌, ◌≤◌, List, [], ◌∷◌, ◌++◌, length, take, drop, set, get_or, replicate, refl, sym, ap, ◌∙◌, arith, append-nil, length-drop, take-append-drop}
+use Rattle.std.proofs.lemmas.List.{length-map, get_or-map, take_all, drop_all, get_or-drop}
 use Rattle.entry_model.specs.State.{State, empty_state}
 use Rattle.c_layout.specs.Entries.{Entry, states_of, entry_with, AreMarked}
-use Rattle.c_layout.proofs.Filling.{fill_more}
+use Rattle.c_layout.proofs.Filling.{fill_more, get_rest}
 use Rattle.c_layout.proofs.Marks.{marked_none}
 use Rattle.papr_c.specs.Rehash.{emptied_between, wiped_entries}
 
 -- ---- lists
--- What stands at the place up to which a list was filled.
-pub get_rest :
-    {X : Type 0} (items old : List X) (i : ℕ) (d : X)
-    → i < length items
-    → i < length old
-    → get_or (take i items ++ drop i old) i d ≡ get_or old i d
-get_rest [] old i d inside below = absurd (omega (arith, inside))
-get_rest (x ∷ items) [] i d inside below = absurd (omega (arith, below))
-get_rest (x ∷ items) (o ∷ old) zero d inside below = refl
-get_rest (x ∷ items) (o ∷ old) (suc i) d inside below =
-    get_rest items old i d (omega (arith, inside)) (omega (arith, below))
-
 -- Places behind those of a first list.
 set_behind :
     {X : Type 0} (old ys : List X) (n i : ℕ) (x : X)
@@ -42,29 +30,17 @@ get_behind (o ∷ old) ys (suc n) i d few =
     let next : suc n + i ≡ suc (n + i) = omega arith in
     rw next (get_behind old ys n i d (omega (arith, few)))
 
-get_dropped :
-    {X : Type 0} (old : List X) (n i : ℕ) (d : X) → get_or (drop n old) i d ≡ get_or old (n + i) d
-get_dropped old zero i d = ap (λ k. get_or old k d) (omega arith)
-get_dropped [] (suc n) i d = refl
-get_dropped (o ∷ old) (suc n) i d =
-    let next : suc n + i ≡ suc (n + i) = omega arith in rw next (get_dropped old n i d)
-
 -- ---- so far
 pub between : (Entry → Entry) → ℕ → ℕ → List Entry → List Entry
 between f first index entries =
     let rest = drop first entries in
     take first entries ++ (take (index - first) (map f rest) ++ drop (index - first) rest)
 
-take_drop : {X : Type 0} (old : List X) (n : ℕ) → take n old ++ drop n old ≡ old
-take_drop old zero = refl
-take_drop [] (suc n) = refl
-take_drop (o ∷ old) (suc n) = ap (λ xs. o ∷ xs) (take_drop old n)
-
 pub between_none :
     (f : Entry → Entry) (first : ℕ) (old : List Entry) → old ≡ between f first first old
 unfolding between
 between_none f first old =
-    let none : first - first ≡ 0 = omega arith in rw none (sym (take_drop old first))
+    let none : first - first ≡ 0 = omega arith in rw none (sym (take-append-drop first old))
 
 -- What stands at the next index is what stood there.
 pub between_read :
@@ -82,7 +58,7 @@ between_read f first index old d low below =
     ap (λ k. get_or (between f first index old) k d) at
     ∙ get_behind old (take n (map f rest) ++ drop n rest) first n d (omega (arith, low, below))
     ∙ get_rest (map f rest) rest n d (omega (arith, inside, length-map rest f)) inside
-    ∙ get_dropped old first n d
+    ∙ get_or-drop first old n d
     ∙ ap (λ k. get_or old k d) (sym at)
 
 pub between_next :
@@ -102,7 +78,7 @@ between_next f first index old d low below =
     let inside_map : n < length (map f rest) = omega (arith, inside, length-map rest f) in
     let item : f (get_or old index d) ≡ get_or (map f rest) n (f d) =
     ap (λ k. f (get_or old k d)) at
-    ∙ ap f (sym (get_dropped old first n d))
+    ∙ ap f (sym (get_or-drop first old n d))
     ∙ sym (get_or-map f rest n d (f d) inside) in
     ap (λ k. set (between f first index old) k (f (get_or old index d))) at
     ∙ set_behind old (take n (map f rest) ++ drop n rest) first n (f (get_or old index d))

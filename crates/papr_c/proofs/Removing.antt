@@ -1,8 +1,7 @@
 -- A bulk removal, one pair after the other, with its words and receipts in the caller's slots.
 use Rattle.std.specs.Prelude.{map, ◌||◌}
-use Rattle.std.proofs.Common.{◌≡◌, ℕ, zero, suc, ◌+◌, ◌-◌, ◌*◌, ◌<◌, ◌≤◌, List, [], ◌∷◌, ◌++◌, length, take, drop, set, get_or, min, Bool, true, false, arith, refl, sym, ap, ◌∙◌, length-set, length-drop}
-use Rattle.std.proofs.lemmas.List.{length-append, take_all, length_push}
-use Rattle.std.proofs.Math.Numerals.{add-one}
+use Rattle.std.proofs.Common.{◌≡◌, ℕ, ◌+◌, ◌-◌, ◌*◌, ◌<◌, ◌≤◌, List, [], ◌∷◌, ◌++◌, length, take, drop, set, get_or, min, Bool, true, false, arith, refl, sym, ap, ◌∙◌, length-set, length-drop}
+use Rattle.std.proofs.lemmas.List.{length-append, take_all, length_push, take_more, length-take-le, get_or-drop}
 use Rattle.papr_codes.specs.ReturnCodes.{rc_code}
 use Rattle.papr_codes.specs.declared.codes.Rc.{Rc}
 use Rattle.entry_model.specs.State.{State}
@@ -26,6 +25,7 @@ use Rattle.papr_c.specs.Calls.{LentMemory, memory, outcome_where}
 use Rattle.papr_c.proofs.Outcomes.{call_is, table_whole}
 use Rattle.papr_c.proofs.SoFar.{put_next}
 use Rattle.std.proofs.Math.Bool.{or-false}
+use Rattle.c_layout.proofs.Marks.{or_assoc}
 
 -- ---- slots
 -- One more item behind those that were put.
@@ -48,30 +48,6 @@ pub rest_none :
     → words ≡ placed words first (take (first - first) (drop first pairs))
 rest_none first pairs words = let none : first - first ≡ 0 = omega arith in rw none refl
 
-take_next :
-    (xs : List ℕ) (i : ℕ) (d : ℕ)
-    → i < length xs
-    → take (i + 1) xs ≡ take i xs ++ get_or xs i d ∷ []
-take_next xs i d below = rw add-one (at xs i below) where
-  at :
-      (ys : List ℕ) (j : ℕ)
-      → j < length ys
-      → take (suc j) ys ≡ take j ys ++ get_or ys j d ∷ []
-  at [] j h = absurd (omega (arith, h))
-  at (y ∷ ys) zero h = refl
-  at (y ∷ ys) (suc j) h = ap (λ rest. y ∷ rest) (at ys j (omega (arith, h)))
-
-length_first : (xs : List ℕ) (i : ℕ) → i ≤ length xs → length (take i xs) ≡ i
-length_first xs zero h = refl
-length_first [] (suc i) h = absurd (omega (arith, h))
-length_first (x ∷ xs) (suc i) h = ap suc (length_first xs i (omega (arith, h)))
-
-get_from : (xs : List ℕ) (n i d : ℕ) → get_or (drop n xs) i d ≡ get_or xs (n + i) d
-get_from xs zero i d = ap (λ k. get_or xs k d) (omega arith)
-get_from [] (suc n) i d = refl
-get_from (x ∷ xs) (suc n) i d =
-    let next : suc n + i ≡ suc (n + i) = omega arith in rw next (get_from xs n i d)
-
 pub rest_more :
     (first i : ℕ) (pairs words now : List ℕ) (d : ℕ)
     → length pairs ≡ 8
@@ -86,12 +62,12 @@ rest_more first i pairs words now d eight low below is =
     let long : length rest ≡ 8 - first = length-drop first pairs ∙ ap (λ m. m - first) eight in
     let next : i + 1 - first ≡ n + 1 = omega (arith, low) in
     let at : first + length (take n rest) ≡ i =
-    omega (arith, length_first rest n (omega (arith, long, low, below)), low) in
+    omega (arith, length-take-le n rest (omega (arith, long, low, below)), low) in
     let item : get_or rest n d ≡ get_or pairs i d =
-    get_from pairs first n d ∙ ap (λ k. get_or pairs k d) (omega (arith, low)) in
+    get_or-drop first pairs n d ∙ ap (λ k. get_or pairs k d) (omega (arith, low)) in
     sym
     (ap (λ k. placed words first (take k rest)) next
-    ∙ ap (placed words first) (take_next rest n d (omega (arith, long, low, below)))
+    ∙ ap (placed words first) (take_more rest n d (omega (arith, long, low, below)))
     ∙ placed-append (take n rest) (get_or rest n d ∷ []) words first
     ∙ (λ k. set (sym is k) (at k) (item k)))
 
@@ -106,17 +82,13 @@ rest_all first i pairs words eight all =
     (take_all (i - first) (drop first pairs) (omega (arith, length-drop first pairs, eight, all)))
 
 -- ---- whether a cached translation may be one no more
-or_assoc : (a b c : Bool) → (a || (b || c)) ≡ ((a || b) || c)
-or_assoc true b c = refl
-or_assoc false b c = refl
-
 pub stale_more :
     (rs : List Receipt) (r : Receipt)
     → (any_stale rs || is_stale r.answer) ≡ any_stale (rs ++ r ∷ [])
 unfolding any_stale
 stale_more [] r = sym (or-false (is_stale r.answer))
 stale_more (x ∷ rs) r =
-    sym (or_assoc (is_stale x.answer) (any_stale rs) (is_stale r.answer))
+    or_assoc (is_stale x.answer) (any_stale rs) (is_stale r.answer)
     ∙ ap (λ b. is_stale x.answer || b) (stale_more rs r)
 
 -- ---- the pairs so far

@@ -16,7 +16,7 @@ use Rattle.c_layout.specs.declared.receipts.PaprReceipt.{PaprReceipt}
 use Rattle.c_layout.specs.Slots.{placed, shown_receipt}
 use Rattle.papr_c.specs.Tried.{LentPair, IsMadeAt, IsTriedLast}
 use Rattle.c_layout.proofs.Filling.{placed-append}
-use Rattle.std.proofs.lemmas.List.{length_push}
+use Rattle.std.proofs.lemmas.List.{length_push, map_push, length-map}
 
 -- The rest of the calls begins with this one.
 pub drop_at :
@@ -78,25 +78,16 @@ pub record IsSoFar (goes : Answer → Bool) (cs : List Call) (i : ℕ) (a b : Li
   pub same : length b ≡ length a
   pub inside : i ≤ length cs
 
-map-more :
-    (rs : List Receipt) (r : Receipt)
-    → map shown_receipt (rs ++ r ∷ []) ≡ map shown_receipt rs ++ shown_receipt r ∷ []
-map-more [] r = refl
-map-more (x ∷ rs) r = ap (λ z. shown_receipt x ∷ z) (map-more rs r)
-
-length-map_shown : (rs : List Receipt) → length (map shown_receipt rs) ≡ length rs
-length-map_shown [] = refl
-length-map_shown (x ∷ rs) = ap suc (length-map_shown rs)
-
 pub put_next :
     (old new : List PaprReceipt) (i : ℕ) (rs : List Receipt) (r : Receipt)
     → new ≡ placed old 0 (map shown_receipt rs)
     → length rs ≡ i
     → set new i (shown_receipt r) ≡ placed old 0 (map shown_receipt (rs ++ r ∷ []))
 put_next old new i rs r is tried =
-    let at : 0 + length (map shown_receipt rs) ≡ i = omega (arith, length-map_shown rs, tried) in
+    let at : 0 + length (map shown_receipt rs) ≡ i = omega
+    (arith, length-map rs shown_receipt, tried) in
     sym
-    (ap (placed old 0) (map-more rs r)
+    (ap (placed old 0) (map_push shown_receipt rs r)
     ∙ placed-append (map shown_receipt rs) (shown_receipt r ∷ []) old 0
     ∙ (λ k. set (sym is k) (at k) (shown_receipt r)))
 

@@ -1,8 +1,8 @@
 -- Marks that are taken one after the other.
 use Rattle.std.specs.Prelude.{nat_lt}
-use Rattle.std.proofs.Common.{◌≡◌, ℕ, zero, suc, ◌+◌, ◌<◌, ◌≤◌, List, [], ◌∷◌, ◌++◌, length, take, drop, set, get_or, true, false, refl, sym, ap, ◌∙◌, ◌⊎◌, inl, inr, arith, append-nil}
+use Rattle.std.proofs.Common.{◌≡◌, ℕ, ◌+◌, ◌<◌, ◌≤◌, List, [], ◌∷◌, ◌++◌, length, take, drop, set, get_or, true, false, refl, sym, ap, ◌∙◌, ◌⊎◌, inl, inr, arith, append-nil, append_assoc}
 use Rattle.std.proofs.lemmas.Bool.{cases_lt, lt-ltb, le-ltb}
-use Rattle.std.proofs.lemmas.List.{set-get_or, drop_more, drop_all, take_all, length_push}
+use Rattle.std.proofs.lemmas.List.{set-get_or, drop_more, drop_all, take_all, length_push, take_at}
 use Rattle.c_layout.specs.Entries.{Entry}
 use Rattle.c_layout.specs.Slots.{placed}
 use Rattle.papr_c.specs.Taking.{marked_from, behind, Found, found, without_mark, entries_without, slots_after}
@@ -117,10 +117,6 @@ behind-more : (first i : ℕ) (is : List ℕ) → behind first (is ++ i ∷ []) 
 behind-more first i [] = refl
 behind-more first i (j ∷ is) = behind-more (j + 1) i is
 
-append_one : (is js : List ℕ) (i : ℕ) → is ++ (i ∷ js) ≡ (is ++ i ∷ []) ++ js
-append_one [] js i = refl
-append_one (j ∷ is) js i = ap (λ xs. j ∷ xs) (append_one is js i)
-
 pub taking_takes :
     (first index room : ℕ) (old now next : List Entry) (slots new filled_on : List ℕ)
     (count count_on : ℕ) (told : List ℕ) (d e : Entry)
@@ -144,7 +140,8 @@ taking_takes first index room old now next slots new filled_on count count_on to
           h.whole
           ∙ ap (λ xs. told ++ xs)
           (rest_from old index d below ∙ from_marked index at (drop (index + 1) old) is)
-          ∙ append_one told (marked_from (index + 1) (drop (index + 1) old)) index;
+          ∙ sym
+          (append_assoc told (index ∷ []) (marked_from (index + 1) (drop (index + 1) old)));
       entries =
           after
           ∙ (λ k. set (h.entries k) index (without k))
@@ -157,14 +154,6 @@ taking_takes first index room old now next slots new filled_on count count_on to
     }
 
 -- ---- the end
-take_first :
-    (is js : List ℕ) (n : ℕ) → length is ≡ n → take n (is ++ js) ≡ is
-take_first [] js zero long = refl
-take_first [] js (suc n) long = absurd (omega (arith, long))
-take_first (i ∷ is) js zero long = absurd (omega (arith, long))
-take_first (i ∷ is) js (suc n) long =
-    ap (λ xs. i ∷ xs) (take_first is js n (omega (arith, long)))
-
 -- The slots are filled with the indexes that were found, as both clauses that name them say.
 pub places_are :
     (old : List Entry) (first room : ℕ) (slots new : List ℕ) (f : Found)
@@ -186,7 +175,7 @@ pub found_is :
 found_is first index room old now slots new count told (inl all) h =
     let indexes : take room (marked_from first (drop first old)) ≡ told =
     ap (take room) h.whole
-    ∙ take_first told (marked_from index (drop index old)) room (omega (arith, h.counted, all)) in
+    ∙ take_at told (marked_from index (drop index old)) room (omega (arith, h.counted, all)) in
     let not_less : nat_lt (length told) room ≡ false =
     le-ltb (length told) room (omega (arith, h.counted, all)) in
     rw (indexes, not_less) (λ k. record { indexes = told; next = h.full all k })

@@ -4,7 +4,7 @@ use Rattle.std.proofs.lemmas.List.{take_all, drop_all, append-nil}
 use Rattle.std.proofs.Math.Numerals.{add-one}
 use Rattle.entry_model.specs.State.{State}
 use Rattle.c_layout.specs.Entries.{Entry, states_of, entry_with, entries_with, AreMarked}
-use Rattle.c_layout.proofs.Filling.{fill_more}
+use Rattle.c_layout.proofs.Filling.{fill_more, get_rest}
 use Rattle.c_layout.proofs.Marks.{given_states}
 
 -- ---- a list of states
@@ -45,17 +45,6 @@ with_at (e ∷ es) [] i d t below inside = absurd (omega (arith, inside))
 with_at (e ∷ es) (s ∷ ss) zero d t below inside = refl
 with_at (e ∷ es) (s ∷ ss) (suc i) d t below inside =
     with_at es ss i d t (omega (arith, below)) (omega (arith, inside))
-
-get_rest :
-    (items old : List Entry) (i : ℕ) (d : Entry)
-    → i < length items
-    → i < length old
-    → get_or (take i items ++ drop i old) i d ≡ get_or old i d
-get_rest [] old i d inside below = absurd (omega (arith, inside))
-get_rest (x ∷ items) [] i d inside below = absurd (omega (arith, below))
-get_rest (x ∷ items) (o ∷ old) zero d inside below = refl
-get_rest (x ∷ items) (o ∷ old) (suc i) d inside below =
-    get_rest items old i d (omega (arith, inside)) (omega (arith, below))
 
 pub given_more :
     (old now : List Entry) (ss : List State) (i : ℕ) (d e : Entry) (s : State)

@@ -21,14 +21,10 @@ image_entry e = record {
   dword1 = (words_of e.1).1;
 }
 
--- The entries of a dump.
-abbrev pub image_entries : List (ℕ × State) → List ImageEntry
-image_entries states = map image_entry states
-
 -- The image of the table at the end; or the index of the first entry that the layout can't hold.
 abbrev pub image_output : Layout → AcceptedTrace → Result (List ℕ) ℕ
 image_output layout t =
-    image_of layout (table_at_end t).order (image_entries (table_at_end t).states)
+    image_of layout (table_at_end t).order (map image_entry (table_at_end t).states)
 
 -- The line that names an entry that the layout can't hold.
 abbrev pub layout_refusal_text : ℕ → List ℕ

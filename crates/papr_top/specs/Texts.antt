@@ -1,15 +1,14 @@
 -- What may be written of a trace.
 use Rattle.std.specs.Prelude.{◌≡◌, ℕ, List, length}
-use Rattle.std.specs.List.{AllByRecursion}
 use Rattle.trace_read.specs.Trace.{AcceptedTrace, IsAccepted}
 use Rattle.trace_reply.specs.declared.reply.Reply.{Reply}
-use Rattle.trace_reply.specs.Replies.{RepliedLine, lines_with_replies}
 use Rattle.trace_reply.specs.declared.shown.Shown.{Shown}
 use Rattle.run_model.specs.QuietLines.{shown_of}
 use Rattle.run_model.specs.SerialRun.{serial_replies, table_after}
 use Rattle.run_model.specs.GoodRun.{IsGoodRun}
 use Rattle.run_model.specs.Assurances.{Assures}
 use Rattle.run_model.specs.BusyCalls.{PutIsNotBusy}
+use Rattle.run_model.specs.EachReplied.{EachReplied}
 use Rattle.run_model.specs.Laws.{HasOneProcessor}
 use Rattle.reply_text.specs.Text.{text_of}
 use Rattle.reply_text.specs.Summary.{summary_text}
@@ -23,10 +22,7 @@ pub record IsAssured (t : AcceptedTrace) (rs : List Reply) : Type 0 where
 -- The serial run is assured, and no H_PUT_TCE in it answers H_BUSY.
 pub record IsSerialAssured (t : AcceptedTrace) : Type 0 where
   pub run : IsAssured t (serial_replies t)
-  pub not_busy :
-      AllByRecursion
-      (λ (x : RepliedLine). PutIsNotBusy x.line.act x.reply)
-      (lines_with_replies t.lines (serial_replies t))
+  pub not_busy : EachReplied PutIsNotBusy t (serial_replies t)
 
 -- The text of the serial run, which is assured.
 pub record IsSerialText (t : AcceptedTrace) (text : List ℕ) : Type 0 where

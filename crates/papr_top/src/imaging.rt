@@ -1,8 +1,8 @@
-ghost use Rattle.std.specs.Prelude.{◌≡◌, IfErr, IfOk, string_bytes};
+ghost use Rattle.std.specs.Prelude.{◌≡◌, IfErr, IfOk, map, string_bytes};
 ghost use Rattle.table_image.specs.Image.{TellsOf};
 ghost use Rattle.papr_edge.specs.Answer.{IsAnswer};
 ghost use Rattle.papr_top.specs.Texts.{IsSerialAssured};
-ghost use Rattle.papr_top.specs.Images.{image_entries, image_entry, image_output, layout_refusal_text, IsImage};
+ghost use Rattle.papr_top.specs.Images.{image_entry, image_output, layout_refusal_text, IsImage};
 
 use entry_model::EntryState;
 use number_text::put_hexadecimal;
@@ -30,7 +30,7 @@ fn listed_entries(
     alloc: Global,
     states: &[(u32, EntryState)],
 ) -> Result<Vec<ImageEntry>, AllocError>
-    ensures { IfOk result (λ entries. entries.items ≡ image_entries states.now) }
+    ensures { IfOk result (λ entries. entries.items ≡ map image_entry states.now) }
 {
     states.iter().map(|entry| listed(entry)).collect(alloc)
 }

@@ -3,40 +3,11 @@ use Rattle.std.proofs.Common.{◌≡◌, ℕ, ◌<◌, ◌≤◌, ◌+◌, ◌-�
 use Rattle.basics.specs.Words.{first_refusal}
 use Rattle.std.specs.List.{list_any}
 use Rattle.std.proofs.lemmas.Bool.{cases_Bool, and_from, and_parts, or_parts, ltb-false, lt-ltb, le-leb, leb-true}
+use Rattle.frame_grants.proofs.Accepting.{IsAccepted}
 use Rattle.frame_grants.specs.declared.error.GrantError.{GrantError}
 use Rattle.frame_grants.specs.declared.grant.Grant.{Grant}
 use Rattle.frame_grants.specs.Grants.{GrantedMemory, add_refusal, refusals, holds, machine_at, machine_range, overlaps, starts_below, with_grant}
 use Rattle.pool_range.specs.Ranges.{address_end}
-
--- None of the tests holds.
-abbrev AreFalse : List (Bool × GrantError) → Type 0
-AreFalse [] = Unit {0}
-AreFalse (test ∷ tests) = (test.0 ≡ false) × AreFalse tests
-
-nothing_wrong : (tests : List (Bool × GrantError)) → first_refusal tests ≡ None → AreFalse tests
-nothing_wrong [] none = tt
-nothing_wrong ((true, fault) ∷ tests) none = absurd (cc)
-nothing_wrong ((false, fault) ∷ tests) none = (refl, nothing_wrong tests none)
-
--- What was granted meets no other grant, and ends at most at 2 ^ 60.
-pub record IsAccepted (granted : GrantedMemory) (grant : Grant) : Type 0 where
-  pub apart : list_any (overlaps grant) granted.grants ≡ false
-  pub fits : grant.logical + grant.length ≤ address_end
-
-pub accepted :
-    (granted : GrantedMemory) (grant : Grant)
-    → add_refusal granted grant ≡ None
-    → IsAccepted granted grant
-unfolding add_refusal refusals
-accepted granted grant none =
-    let all : AreFalse (refusals granted grant) = nothing_wrong (refusals granted grant) none in
-    record {
-      apart = all.1.1.1.1.0;
-      fits =
-          ltb-false address_end (grant.logical + grant.length)
-          (or_parts (nat_lt address_end (grant.logical + grant.length))
-          (nat_lt address_end (grant.machine + grant.length)) all.1.1.0).0;
-    }
 
 -- Another grant that holds one of its bytes overlaps it.
 held_overlaps :

@@ -13,10 +13,6 @@ use Rattle.tlb_model.specs.Cache.{AllCached}
 use Rattle.hpt_walk.specs.declared.request.Request.{Request}
 use Rattle.hpt_walk.specs.Access.{AccessContext, IsAccessReply, no_segment_reply}
 
-all_in_none : (P : Line → Type 0) (n : ℕ) → AllCached P (replicate n [])
-all_in_none P zero = tt
-all_in_none P (suc n) = (tt, all_in_none P n)
-
 no_segment : (ea : ℕ) → segment_of no_slots ea ≡ None
 unfolding no_slots segment_of
 no_segment ea = refl

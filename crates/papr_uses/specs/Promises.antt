@@ -7,11 +7,11 @@ use Rattle.trace_line.specs.declared.line.TraceLine.{TraceLine}
 use Rattle.trace_read.specs.Trace.{AcceptedTrace}
 use Rattle.trace_read.specs.Grammar.{trace_of}
 use Rattle.trace_reply.specs.declared.reply.Reply.{Reply}
-use Rattle.trace_reply.specs.Replies.{RepliedLine, lines_with_replies}
 use Rattle.run_model.specs.BusyCalls.{PutIsNotBusy}
 use Rattle.run_model.specs.CachedAccesses.{AccessesUseCaches}
 use Rattle.run_model.specs.CommittedResizes.{ResizesKeepTranslations}
 use Rattle.run_model.specs.DeviceLandings.{DeviceLands}
+use Rattle.run_model.specs.EachReplied.{EachReplied}
 use Rattle.run_model.specs.GoodRun.{IsGoodRun}
 use Rattle.run_model.specs.Landings.{AccessesLand, IsUnworn}
 use Rattle.run_model.specs.Laws.{HasOneProcessor}
@@ -74,10 +74,7 @@ EachAccessLands t rs = AllByRecursion (AccessesLand t.config.granted) (sections_
 
 -- A device's access that is allowed lands by its TCE, in a grant of main storage and in no table.
 abbrev pub EachDeviceLands : Promise
-EachDeviceLands t rs =
-    AllByRecursion
-    (λ (x : RepliedLine). DeviceLands t.config.granted x.line.act x.reply)
-    (lines_with_replies t.lines rs)
+EachDeviceLands t rs = EachReplied (DeviceLands t.config.granted) t rs
 
 -- No reply is H_HARDWARE.
 abbrev pub NoneIsHardware : Promise
@@ -121,7 +118,4 @@ pub record TextTellsRun (t : AcceptedTrace) (rs : List Reply) : Type 0 where
 
 -- No H_PUT_TCE answers H_BUSY.
 abbrev pub NoPutIsBusy : Promise
-NoPutIsBusy t rs =
-    AllByRecursion
-    (λ (x : RepliedLine). PutIsNotBusy x.line.act x.reply)
-    (lines_with_replies t.lines rs)
+NoPutIsBusy t rs = EachReplied PutIsNotBusy t rs

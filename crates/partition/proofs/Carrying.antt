@@ -5,6 +5,7 @@ use Rattle.std.specs.Option.{option_and_then, option_map_or}
 use Rattle.std.specs.List.{range_with_len, AllByRecursion}
 use Rattle.std.proofs.lemmas.Bool.{cases_Bool}
 use Rattle.std.proofs.lemmas.Nat.{pow-add}
+use Rattle.basics.proofs.Each.{each_within}
 use Rattle.power_addr.specs.Pages.{VirtualPage}
 use Rattle.hpte_fields.specs.Fields.{is_bolted, is_secondary}
 use Rattle.hpt_hash.specs.Hash.{group_of}
@@ -16,7 +17,7 @@ use Rattle.entry_model.specs.Run.{state_at}
 use Rattle.power_addr.proofs.SamePages.{page_self}
 use Rattle.hpt_walk.specs.Laws.{IsEntryState}
 use Rattle.hpt_walk.specs.Translations.{page_in}
-use Rattle.hpt_walk.proofs.Finding.{is_this, paired-in, this_is, state_of}
+use Rattle.hpt_walk.proofs.Finding.{is_this, paired-in, this_is}
 use Rattle.hpt_resize.specs.Rehash.{carried_page, target_of, target_at, first_with, collision_at, collision_of, entry_at, rehashed_states, at_stamp_0}
 use Rattle.hpte_fields.specs.TableSize.{entry_count, least_order}
 use Rattle.hpt_resize.specs.Resize.{Table}
@@ -287,7 +288,8 @@ rehash_keeps old to place number low states none = record {
       let of = of_page old.order source.entry s page
       (translates_in old page source.entry source.in_table source.translates) in
       let moved = moved_page old.order to source.entry target s.dword0 s.dword1 page low
-      (state_of old.states source.entry states source.in_table).fits of.found source.group in
+      (each_within IsEntryState old.states source.entry (empty_state 0) states source.in_table).fits
+      of.found source.group in
       in_translates (table_with to place number (rehashed_states old.order to old.states)) page
       target inside
       (ap (page_in to target) (stands page target source)
@@ -315,7 +317,8 @@ rehash_keeps old to place number low states none = record {
       omega arith in
       let slot : from.entry % 8 ≡ target % 8 = let e = carried.there in omega arith in
       let moved = moved_page old.order to from.entry target s.dword0 s.dword1 carried.page low
-      (state_of old.states from.entry states from.inside).fits carried.found group in
+      (each_within IsEntryState old.states from.entry (empty_state 0) states from.inside).fits
+      carried.found group in
       let found : page_at to target s.dword0 s.dword1 ≡ Some page = ap
       (λ (x : State). page_at to target x.dword0 x.dword1) (sym from.is) ∙ there.found in
       let same : carried.page ≡ page = cc in

@@ -1,9 +1,8 @@
 -- A partition opens with the entries of its configuration and no other.
 use Rattle.std.proofs.Common.{◌≡◌, ℕ, ◌<◌, ◌^◌, List, [], ◌∷◌, length, subst, ap, sym, refl, ◌∙◌, bit_and, arith}
 use Rattle.std.specs.List.{AllByRecursion}
-use Rattle.std.proofs.lemmas.Nat.{and_le_r}
+use Rattle.std.proofs.lemmas.Nat.{and_le_r, and_assoc}
 use Rattle.hpte_fields.specs.TableSize.{entry_count}
-use Rattle.hpte_fields.proofs.Masks.{masks_join}
 use Rattle.frame_grants.specs.declared.grant.Grant.{Grant}
 use Rattle.table_image.specs.declared.entry.ImageEntry.{ImageEntry}
 use Rattle.trace_read.specs.Configuration.{IsOpeningEntry}
@@ -26,7 +25,7 @@ second_low dword1 kept = omega (arith, kept, and_le_r dword1 0xBFFFFFFFFFFFFFFF)
 
 entered_canonical : (dword0 dword1 : ℕ) → IsCanonicalState (entered_state dword0 dword1)
 entered_canonical dword0 dword1 = record {
-  apart = masks_join dword1 0xFFFFFFFFFFFFFE7F 0x180 ∙ and_zero_r dword1;
+  apart = and_assoc 0x180 dword1 0xFFFFFFFFFFFFFE7F ∙ and_zero_r dword1;
   no_first = λ e. cc;
   no_second = λ e. cc;
   no_reference = λ e. cc;

@@ -21,6 +21,7 @@ use Rattle.entry_model.specs.Receipt.{is_no_match}
 use Rattle.entry_model.specs.Trial.{Call, Plan, plan_run, receipt_at, trial_run}
 use Rattle.entry_model.proofs.OperationLaws.{reply_canonical}
 use Rattle.entry_model.proofs.PlanBounds.{EntersOnly}
+use Rattle.entry_model.proofs.KeptWords.{HasWords, empty_words, reply_words}
 use Rattle.call_plan.proofs.EachCall.{each_tame}
 use Rattle.slb_model.specs.declared.segment.Segment.{Segment}
 use Rattle.slb_model.specs.Buffer.{segment_of}
@@ -49,7 +50,7 @@ use Rattle.run_model.proofs.LowStampRuns.{opening_grants}
 use Rattle.run_model.proofs.Memories.{prepare_table}
 use Rattle.run_model.proofs.RehashedStates.{committed_each}
 use Rattle.run_model.proofs.SafeReplies.{walk_enters}
-use Rattle.run_model.proofs.StoredReplies.{HasStored, empty_stored, reply_stored}
+use Rattle.run_model.proofs.StoredReplies.{stored_stay}
 use Rattle.papr_codes.specs.declared.calls.Hcall.TheVariants as calls
 use Rattle.entry_model.specs.declared.operation.Op.TheVariants as ops
 use Rattle.trace_line.specs.declared.act.Act.TheVariants as acts
@@ -57,14 +58,14 @@ use Rattle.trace_line.specs.declared.act.Act.TheVariants as acts
 -- ---- states
 -- The state is written in the one way, and has such words where it is valid.
 abbrev IsKept : List Grant → State → Type 0
-IsKept grants s = HasStored grants s × IsCanonicalState s
+IsKept grants s = HasWords (AreStored grants) s × IsCanonicalState s
 
 abbrev AreKept : List Grant → List State → Type 0
 AreKept grants states = AllByRecursion (IsKept grants) states
 
 empty_kept : (grants : List Grant) → IsKept grants (empty_state 0)
 empty_kept grants = (
-  empty_stored grants 0,
+  empty_words (AreStored grants) 0,
   record {
     apart = refl;
     no_first = λ e. refl;
@@ -79,7 +80,10 @@ reply_kept :
     → EntersOnly (AreStored grants) op
     → IsKept grants s
     → IsKept grants (reply_of s op).1
-reply_kept grants s op enters h = (reply_stored grants s op enters h.0, reply_canonical s op h.1)
+reply_kept grants s op enters h = (
+  reply_words (AreStored grants) s op (stored_stay grants) enters h.0,
+  reply_canonical s op h.1,
+)
 
 -- ---- calls on entries
 abbrev EnterStored : List Grant → List Call → Type 0

@@ -1,11 +1,25 @@
--- The receipts of lines, one line after the other.
-use Rattle.std.proofs.Common.{◌*◌, ◌≤◌, List, [], ◌∷◌, length, arith}
+-- Lines with their replies, and the receipts of lines, one line after the other.
+use Rattle.std.proofs.Common.{◌*◌, ◌≤◌, List, [], ◌∷◌, length, arith, ◌≡◌, ◌++◌, refl, ap}
 use Rattle.std.specs.List.{AllByRecursion}
+use Rattle.trace_reply.specs.declared.reply.Reply.{Reply}
+use Rattle.trace_line.specs.declared.line.TraceLine.{TraceLine}
 use Rattle.entry_model.specs.declared.receipt.Receipt.{Receipt}
 use Rattle.entry_model.proofs.Heights.{weight, weight_append}
-use Rattle.trace_reply.specs.Replies.{RepliedLine, receipts_in}
+use Rattle.trace_reply.specs.Replies.{RepliedLine, receipts_in, AreReplies, lines_with_replies}
 use Rattle.run_model.specs.Histories.{receipts_by}
 use Rattle.basics.proofs.Each.{each_append, each_front, each_back}
+
+-- The replies of lines and of further ones, where the first have replies of their kinds.
+pub lines_append :
+    (ls ms : List TraceLine) (rs qs : List Reply)
+    → AreReplies ls rs
+    → lines_with_replies (ls ++ ms) (rs ++ qs)
+    ≡ lines_with_replies ls rs ++ lines_with_replies ms qs
+lines_append [] ms [] qs h = refl
+lines_append [] ms (r ∷ rs) qs h = absurd h
+lines_append (l ∷ ls) ms [] qs h = absurd h
+lines_append (l ∷ ls) ms (r ∷ rs) qs h =
+    ap (λ ts. record { line = l; reply = r } ∷ ts) (lines_append ls ms rs qs h.1)
 
 -- What holds of each receipt of each line holds of each receipt; and back.
 pub each_receipt :

@@ -15,10 +15,11 @@ use Rattle.entry_model.specs.History.{IsLegal, history}
 use Rattle.entry_model.proofs.Heights.{height, cost, weight, weight_history, reply_raises, worn_last}
 use Rattle.entry_model.proofs.Regroup.{sort_regroups, regrouped_back}
 use Rattle.entry_model.proofs.PlanBounds.{EntersOnly, NoneWorn}
-use Rattle.hpt_walk.proofs.Granted.{IsGranted, IsGrantedWords, reply_granted, empty_granted}
+use Rattle.entry_model.proofs.KeptWords.{empty_words, reply_words}
+use Rattle.hpt_walk.proofs.Granted.{IsGranted, IsGrantedWords, granted_stay}
 use Rattle.trace_reply.specs.Replies.{RepliedLine}
 use Rattle.run_model.specs.Stores.{Store, states_of}
-use Rattle.run_model.specs.Histories.{closing_from, receipts_from_processor}
+use Rattle.run_model.specs.Histories.{receipts_from_processor}
 use Rattle.run_model.specs.Sections.{section_end}
 use Rattle.basics.proofs.Each.{each_map, each_filter, each_at, each_under}
 use Rattle.run_model.proofs.OneProcessor.{closing_size}
@@ -31,7 +32,8 @@ pub record IsLowStamp (grants : List Grant) (n : ℕ) (s : State) : Type 0 where
   pub granted : IsGranted grants s
 
 pub empty_low_stamp : (grants : List Grant) (n : ℕ) → IsLowStamp grants n (empty_state 0)
-empty_low_stamp grants n = record { low = omega arith; granted = empty_granted grants 0 }
+empty_low_stamp grants n =
+    record { low = omega arith; granted = empty_words (IsGrantedWords grants) 0 }
 
 pub low_stamp_more :
     (grants : List Grant) (n m : ℕ) (s : State)
@@ -133,12 +135,6 @@ pub each_state :
 each_state P [] h = tt
 each_state P (s ∷ ss) h = (h 0 (omega arith), each_state P ss (λ e k. h (suc e) (omega arith)))
 
-closing_from_size :
-    (e : ℕ) (states : List State) (rs : List Receipt)
-    → length (closing_from e states rs) ≡ length states
-closing_from_size e [] rs = refl
-closing_from_size e (s ∷ ss) rs = ap suc (closing_from_size (suc e) ss rs)
-
 pub closed_size :
     (w : Store) (ts : List RepliedLine)
     → length (states_of (section_end w ts)) ≡ length (states_of w)
@@ -179,7 +175,8 @@ low_stamp_kept grants = record {
       λ n s op enters h.
       record {
         low = (let low : height s ≤ n = h.low in omega (arith, reply_raises s op));
-        granted = reply_granted grants s op enters h.granted;
+        granted =
+            reply_words (IsGrantedWords grants) s op (granted_stay grants) enters h.granted;
       };
   more = low_stamp_more grants;
 }

@@ -4,9 +4,8 @@ use Rattle.std.proofs.Common.{◌≡◌, ◌≢◌, ℕ, zero, suc, ◌+◌, ◌
 use Rattle.std.specs.Int.Bits.{and_zero_r}
 use Rattle.std.specs.List.{AllByRecursion}
 use Rattle.std.proofs.lemmas.List.{get_or-set_other, get_or-set_same}
-use Rattle.std.proofs.lemmas.Nat.{and_le_r}
+use Rattle.std.proofs.lemmas.Nat.{and_le_r, and_assoc}
 use Rattle.hpte_fields.specs.TableSize.{entry_count}
-use Rattle.hpte_fields.proofs.Masks.{masks_join}
 use Rattle.frame_grants.specs.declared.grant.Grant.{Grant}
 use Rattle.page_grants.specs.Suited.{entered_words}
 use Rattle.call_plan.proofs.Suited.{entered_suited}
@@ -109,7 +108,7 @@ digits_back grants layout w digits stored held =
     let kept = (stored_parts grants w.0 w.1 stored).second in
     let low : w.1 < 2 ^ 64 = omega (arith, kept, and_le_r w.1 0xBFFFFFFFFFFFFFFF) in
     let clear : bit_and w.1 cleared_bit ≡ 0 = ap (λ n. bit_and n cleared_bit) (sym kept) ∙
-    masks_join w.1 0xBFFFFFFFFFFFFFFF cleared_bit ∙ and_zero_r w.1 in
+    and_assoc cleared_bit w.1 0xBFFFFFFFFFFFFFFF ∙ and_zero_r w.1 in
     is_read_back.words layout w.0 w.1 digits (entered_suited grants w.0 w.1 w stored).fits low clear
     held
 

@@ -10,13 +10,12 @@ use Rattle.table_image.specs.declared.entry.ImageEntry.{ImageEntry}
 use Rattle.trace_read.specs.Configuration.{Configuration, IsOpeningEntry, AreOpeningEntries}
 use Rattle.entry_model.specs.State.{State, empty_state}
 use Rattle.entry_model.specs.Reply.{entered_state}
-use Rattle.hpt_walk.proofs.Granted.{IsGranted, reply_granted, empty_granted}
+use Rattle.hpt_walk.proofs.Granted.{IsGranted, granted_stay}
 use Rattle.hpt_resize.specs.TableMemory.{opening_memory, empty_states, with_entries}
 use Rattle.hpt_resize.proofs.OpeningStates.{with_entry}
 use Rattle.run_model.specs.Stores.{states_of, page_table}
 use Rattle.basics.proofs.Each.{each_map, each_set, each_replicate}
 use Rattle.run_model.proofs.SafeReplies.{suited_granted}
-use Rattle.entry_model.specs.declared.operation.Op.TheVariants as ops
 
 each_with_entries :
     (P : State → Type 0) (states : List State) (es : List ImageEntry)
@@ -50,6 +49,7 @@ pub entered_granted :
     → entered_words grants dword0 dword1 ≡ Some (dword0, dword1)
     → IsGranted grants (entered_state dword0 dword1)
 entered_granted grants dword0 dword1 stored =
-    reply_granted grants (empty_state 0) (ops.Enter dword0 dword1)
+    λ _.
+    (granted_stay grants).entered dword0 dword1
     (suited_granted grants dword0 dword1
-    (entered_suited grants dword0 dword1 (dword0, dword1) stored)) (empty_granted grants 0)
+    (entered_suited grants dword0 dword1 (dword0, dword1) stored))

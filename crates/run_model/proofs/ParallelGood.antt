@@ -10,7 +10,7 @@ use Rattle.entry_model.specs.declared.receipt.Receipt.{Receipt}
 use Rattle.entry_model.specs.Receipt.{after_of}
 use Rattle.entry_model.specs.Run.{state_at}
 use Rattle.entry_model.specs.CachedLines.{AllLater}
-use Rattle.entry_model.specs.History.{IsLegal, history, pair_of}
+use Rattle.entry_model.specs.History.{pair_of}
 use Rattle.entry_model.specs.Fronts.{front_at, opening_fronts, fronts_after, KeepsFronts, IsGone, pair_beyond}
 use Rattle.entry_model.proofs.FrontLaws.{keeps_below}
 use Rattle.tlb_model.specs.Processor.{Processor}
@@ -25,7 +25,7 @@ use Rattle.run_model.specs.ParallelRun.{Works, RunsApart, RunsParallel, IsParall
 use Rattle.run_model.specs.Processors.{processor_at, processor_after, gone_line_of}
 use Rattle.run_model.specs.Quiet.{QuietPart, cut}
 use Rattle.run_model.specs.QuietLines.{run_quiet_line}
-use Rattle.run_model.specs.Sections.{Section, made_in, closing, closing_on, section_end, after_quiet, quiet_on, section_of, sections_from}
+use Rattle.run_model.specs.Sections.{Section, AreLegalTo, made_in, closing, closing_on, section_end, after_quiet, quiet_on, section_of, sections_from}
 use Rattle.run_model.specs.StoreContexts.{StoreContext, access_of}
 use Rattle.run_model.specs.Stores.{Store, context_of, states_of, opening_stores, is_on}
 use Rattle.basics.proofs.Each.{each_map}
@@ -243,7 +243,8 @@ opening_front (s ∷ a) (suc e) = opening_front a e
 closes : (s : Section) (b : List State) → RunsApart s b → closing s ≡ closing_on s b
 unfolding section_end
 closes s b h =
-    ap (closing_on s) (closing_is (states_of s.before) b (made_in s) h.closed.size h.closed.legal)
+    ap (closing_on s)
+    (closing_is (states_of s.before) b (made_in s) h.closed.size h.closed.legal.legal)
 
 -- What works apart is good.
 section_parallel : (s : Section) (b : List State) → RunsApart s b → IsGoodSection s
@@ -254,15 +255,7 @@ section_parallel s b h =
     let f = opening_fronts a in
     let e : closing_on s b ≡ closing s = sym (closes s b h) in
     record {
-      legal = record {
-        in_table = h.closed.in_table;
-        legal =
-            λ k low.
-            subst
-            (λ (v : Store).
-            IsLegal (state_at a k) (history k (made_in s)) (state_at (states_of v) k)) e
-            (h.closed.legal k low);
-      };
+      legal = subst (λ (v : Store). AreLegalTo s (states_of v)) e h.closed.legal;
       in_order =
           λ cpu k.
           work_order set k (pair_of (state_at a k)) f (h.fronts cpu) (processor_at ps cpu)

@@ -19,7 +19,7 @@ use Rattle.entry_model.specs.declared.operation.Op.{Op}
 use Rattle.entry_model.specs.declared.operation.Test.{Test}
 use Rattle.entry_model.specs.declared.receipt.Receipt.{Receipt}
 use Rattle.entry_model.specs.declared.hreply.HReply.{HReply}
-use Rattle.entry_model.specs.Receipt.{after_of, is_taken, is_worn}
+use Rattle.entry_model.specs.Receipt.{after_of, is_at, is_change, is_taken, is_worn}
 use Rattle.entry_model.specs.Reply.{reply_of, change_to, is_found, no_test}
 use Rattle.entry_model.specs.Trial.{Call, IsTrial, Plan, IsReplyOf, plan_of_code, call}
 use Rattle.page_grants.specs.Suited.{entered_words}
@@ -40,37 +40,25 @@ use Rattle.entry_model.specs.declared.operation.Op.TheVariants as ops
 use Rattle.basics.proofs.Bools.{no_more}
 use Rattle.entry_model.proofs.Trials.{not_worn}
 use Rattle.entry_model.proofs.Replied.{Replied, replied, left, changed, accessed}
-use Rattle.entry_model.specs.Receipt as receipts
 
--- ---- answers without a change
--- The answers that come with a change.
-abbrev is_change : Answer → Bool
-is_change answers.Entered = true
-is_change answers.Removed = true
-is_change answers.Protected = true
-is_change answers.Was = true
-is_change answers.At = true
-is_change other = false
+-- ---- answers that leave the entry
+-- The answer comes with other words or with other bits.
+abbrev is_effect : Answer → Bool
+is_effect a = is_change a || is_at a
 
-changes_tell : (a : Answer) → receipts.is_change a ≡ true → is_change a ≡ true
-changes_tell answers.Entered e = refl
-changes_tell answers.Removed e = refl
-changes_tell answers.Protected e = refl
-changes_tell answers.Was e = refl
-changes_tell other e = cc
-
--- The state stands, where the answer comes without a change.
-reply_stands : (s : State) (op : Op) → is_change (reply_of s op).0 ≡ false → (reply_of s op).1 ≡ s
+-- The state stands, where the answer has no effect.
+reply_stands : (s : State) (op : Op) → is_effect (reply_of s op).0 ≡ false → (reply_of s op).1 ≡ s
 reply_stands s op = at (replied s op) where
-  at : {op : Op} {x : Answer × State} → Replied s op x → is_change x.0 ≡ false → x.1 ≡ s
+  at : {op : Op} {x : Answer × State} → Replied s op x → is_effect x.0 ≡ false → x.1 ≡ s
   at (left a is) off = refl
-  at (changed a next changes is) off = absurd (false≢true (sym off ∙ changes_tell a is.change))
+  at (changed a next changes is) off =
+      let never : true ≡ false = rw is.change at off in absurd (false≢true (sym never))
   at (accessed tag base key no_execute want masks valid) off = absurd (false≢true (sym off))
 
 -- ---- receipts
--- The receipt came without a change.
+-- The receipt leaves its entry.
 abbrev pub IsWithout : Receipt → Type 0
-IsWithout r = is_change r.answer ≡ false
+IsWithout r = is_effect r.answer ≡ false
 
 abbrev AreWithout : List Receipt → Type 0
 AreWithout rs = AllByRecursion IsWithout rs
@@ -83,18 +71,18 @@ without_leaves :
     (keeps : Bool) (rs : List Receipt) → AreWithout rs → AllByRecursion (LeavesEntry keeps) rs
 without_leaves keeps rs h =
     each_map IsWithout (LeavesEntry keeps) rs
-    (λ r off. leaves keeps r (reply_stands r.before r.op (ap is_change (sym r.lawful) ∙ off))) h
+    (λ r off. leaves keeps r (reply_stands r.before r.op (ap is_effect (sym r.lawful) ∙ off))) h
 
 none_made : (goes : Answer → Bool) (rs : List Receipt) → IsTrial goes [] rs → AreWithout rs
 none_made goes [] trial = tt
 none_made goes (r ∷ rs) trial = absurd trial
 
 -- ---- H_ENTER
-taken_without : (answer : Answer) → is_taken answer ≡ true → is_change answer ≡ false
+taken_without : (answer : Answer) → is_taken answer ≡ true → is_effect answer ≡ false
 taken_without answers.Taken on = refl
 taken_without other on = cc
 
-worn_without : (answer : Answer) → is_worn answer ≡ true → is_change answer ≡ false
+worn_without : (answer : Answer) → is_worn answer ≡ true → is_effect answer ≡ false
 worn_without answers.Worn on = refl
 worn_without other on = cc
 
@@ -122,7 +110,7 @@ entered_without (c ∷ cs) (r ∷ rs) trial refused =
           (ending_without r (rw ended at refused), subst AreWithout (sym none) tt))
     ]
 
--- The receipts of a refused reply of this plan come without a change.
+-- The receipts of a refused reply of this plan leave their entries.
 abbrev RefusedWithout : Plan → Type 0
 RefusedWithout plan =
     (reply : HReply) → IsReplyOf plan reply → is_refusal reply.rc ≡ true → AreWithout reply.receipts
@@ -162,7 +150,7 @@ enter_without order grants flags ptex pteh ptel =
 coded_without :
     (answer : Answer) (words : List ℕ)
     → is_refusal (code_and_words answer words).0 ≡ true
-    → is_change answer ≡ false
+    → is_effect answer ≡ false
 coded_without answers.NotFound words refused = refl
 coded_without answers.Worn words refused = refl
 coded_without other words refused = cc
@@ -262,7 +250,7 @@ get_without (Some w) ioba = got_without (entry_at w ioba)
 coded_by_tce :
     (answer : Answer)
     → is_refusal (code_of_answer answer) ≡ true
-    → (is_change answer ≡ false) × (keeps_removals calls.PutTce (code_of_answer answer) ≡ true)
+    → (is_effect answer ≡ false) × (keeps_removals calls.PutTce (code_of_answer answer) ≡ true)
 coded_by_tce answers.Worn refused = (refl, refl)
 coded_by_tce answers.Taken refused = (refl, refl)
 coded_by_tce other refused = absurd (false≢true refused)

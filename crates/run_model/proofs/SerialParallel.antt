@@ -225,11 +225,13 @@ closed s b within h =
     let run : IsRun a (receipts_by s.replied_lines) b = alone_run s b h in
     record {
       size = run-length a b (receipts_by s.replied_lines) run;
-      in_table =
-          each_regrouped (λ (r : Receipt). r.entry < length a)
-          (file_listed (length s.before.processors) s.replied_lines within)
-          (within_run a b (receipts_by s.replied_lines) run);
-      legal = λ e k. section_legal s b within h e;
+      legal = record {
+        in_table =
+            each_regrouped (λ (r : Receipt). r.entry < length a)
+            (file_listed (length s.before.processors) s.replied_lines within)
+            (within_run a b (receipts_by s.replied_lines) run);
+        legal = λ e k. section_legal s b within h e;
+      };
       gone =
           λ cpu line gone.
           by_gone (all_work s b within h cpu).0 b line (all_work s b within h cpu).2 gone;

@@ -13,7 +13,7 @@ use Rattle.trace_read.specs.Configuration.{NumbersDiffer}
 use Rattle.trace_reply.specs.Replies.{RepliedLine}
 use Rattle.run_model.specs.AllStores.{WindowState, AllStores, as_store, all_stores, windows_in, opened}
 use Rattle.run_model.specs.Stores.{Store, window_store, is_on_window, is_on, lines_on, trace_lines_on}
-use Rattle.run_model.specs.StoreNumbers.{store_at, AreNamed, index_from, store_from, store_of, lines_on_store, replied_on_store}
+use Rattle.run_model.specs.StoreNumbers.{store_at, AreNamed, index_from, store_from, store_of, lines_on_store, replied_on_store, Stays}
 use Rattle.run_model.proofs.StoreLines.{off_first}
 
 pub not_eqb : (a b : ℕ) → a ≢ b → eqb a b ≡ false
@@ -38,6 +38,18 @@ same_count vs us same =
 
 pub stores_count : (s : AllStores) → length (all_stores s) ≡ 1 + length s.windows
 stores_count s = omega (arith, length-map s.windows (as_store s.table))
+
+-- ---- what a section leaves as it is
+pub stays_so : (s : AllStores) → Stays s s
+stays_so s = record { windows = refl; processors = refl; number = refl }
+
+pub stays_through : (s mid later : AllStores) → Stays s mid → Stays mid later → Stays s later
+stays_through s mid later first second =
+    record {
+      windows = second.windows ∙ first.windows;
+      processors = second.processors ∙ first.processors;
+      number = second.number ∙ first.number;
+    }
 
 -- ---- the windows
 -- A window of these has the index, and is the store of the next number.

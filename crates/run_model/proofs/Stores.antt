@@ -1,7 +1,7 @@
 -- A store that was allowed sets C, and C stays set until an operation clears it.
-use Rattle.std.specs.Prelude.{if◌then◌else◌, ◌||◌}
-use Rattle.std.proofs.Common.{◌≡◌, ◌+◌, List, [], ◌∷◌, Bool, true, false, ap, sym, ◌∙◌, refl, subst, ◌⊎◌, inl, inr}
-use Rattle.std.proofs.lemmas.Bool.{cases_Bool, false≢true}
+use Rattle.std.specs.Prelude.{◌&&◌, ◌||◌}
+use Rattle.std.proofs.Common.{◌≡◌, ◌+◌, List, [], ◌∷◌, true, false, ap, sym, ◌∙◌, refl, subst, ◌⊎◌, inl, inr}
+use Rattle.std.proofs.lemmas.Bool.{and_parts, cases_Bool, false≢true}
 use Rattle.storage_prot.specs.declared.want.Want.{Want}
 use Rattle.entry_model.specs.State.{State}
 use Rattle.entry_model.specs.declared.operation.Op.{Op}
@@ -52,19 +52,15 @@ op_keeps s op d = at (replied s op) where
 
 store_changes :
     (want : Want) (s : State)
-    → (if is_store want then is_at answers.At else false) ≡ true
+    → (is_store want && is_at answers.At) ≡ true
     → (s.changed || is_store want) ≡ true
 store_changes wants.Store s h = or-true s.changed
 store_changes wants.Load s h = cc
 store_changes wants.Fetch s h = cc
 
-not_at : (want : Want) (b : Bool) → b ≡ false → (if is_store want then b else false) ≡ true → ⊥
-not_at wants.Store b e h = let no : true ≡ false = sym h ∙ e in cc
-not_at wants.Load b e h = cc
-not_at wants.Fetch b e h = cc
-
 no_store : (op : Op) (a : Answer) → is_at a ≡ false → stores_by op a ≡ true → ⊥
-no_store (ops.Access tag base key no_execute want masks) a e h = not_at want (is_at a) e h
+no_store (ops.Access tag base key no_execute want masks) a e h =
+    false≢true (sym e ∙ (and_parts (is_store want) (is_at a) h).1)
 no_store other a e h = cc
 
 op_stores :

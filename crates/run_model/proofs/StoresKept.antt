@@ -11,9 +11,10 @@ use Rattle.hpt_resize.specs.Resize.{Table}
 use Rattle.trace_read.specs.Trace.{AcceptedTrace, IsAccepted}
 use Rattle.trace_reply.specs.declared.reply.Reply.{Reply}
 use Rattle.run_model.specs.Stores.{states_of}
-use Rattle.run_model.specs.Sections.{Section, closing, sections_of}
+use Rattle.entry_model.specs.History.{history}
+use Rattle.run_model.specs.Sections.{Section, closing, made_in, sections_of}
 use Rattle.run_model.specs.GoodRun.{IsGoodRun, IsGoodSection, AreLegal}
-use Rattle.run_model.specs.ShownStores.{history_in, closing_state, has_table_of, carried_to, ShowsChange, StaysShown, NoStoreIsLostIn, NoSetBitIsLostIn}
+use Rattle.run_model.specs.ShownStores.{closing_state, has_table_of, carried_to, ShowsChange, StaysShown, NoStoreIsLostIn, NoSetBitIsLostIn}
 use Rattle.run_model.specs.CommittedResizes.{is_committed}
 use Rattle.basics.proofs.Each.{each_map}
 use Rattle.run_model.proofs.Resized.{Moves, IsAfter, resized_at}
@@ -72,13 +73,13 @@ one_shown s next entry rest committed after legal more d = at (carried_to s next
       → carried_to s next entry ≡ o
       → MatchOption o (Unit {0})
       (λ target.
-      ShowsChange (history_in next target) (closing_state next target)
+      ShowsChange (history target (made_in next)) (closing_state next target)
       (StaysShown next target rest))
   at None to = tt
   at (Some target) to =
       let here = carried_dirty s next entry target committed after.stands.low after.moves to d in
       shows (state_at (states_of next.before) target) (closing_state next target)
-      (history_in next target) (StaysShown next target rest) (more target) here
+      (history target (made_in next)) (StaysShown next target rest) (more target) here
       (legal.legal target (dirty_in_table (states_of next.before) target here))
 
 stays_shown :
@@ -97,7 +98,7 @@ none_lost [] h legal = tt
 none_lost (s ∷ rest) h legal = (
   λ entry below.
       stores_shown (state_at (states_of s.before) entry) (closing_state s entry)
-      (history_in s entry)
+      (history entry (made_in s))
       (StaysShown s entry rest) (stays_shown s entry rest h legal.1) (legal.0.legal entry below),
   none_lost rest (chained_rest s rest h) legal.1,
 )
@@ -123,9 +124,10 @@ none_unset (s ∷ rest) h legal = (
   shown :
       (entry : ℕ)
       → IsDirty (state_at (states_of s.before) entry)
-      → ShowsChange (history_in s entry) (closing_state s entry) (StaysShown s entry rest)
+      → ShowsChange (history entry (made_in s)) (closing_state s entry) (StaysShown s entry rest)
   shown entry dirty =
-      shows (state_at (states_of s.before) entry) (closing_state s entry) (history_in s entry)
+      shows (state_at (states_of s.before) entry) (closing_state s entry)
+      (history entry (made_in s))
       (StaysShown s entry rest) (stays_shown s entry rest h legal.1) dirty
       (legal.0.legal entry (dirty_in_table (states_of s.before) entry dirty))
 

@@ -3,8 +3,8 @@ use Rattle.std.specs.Prelude.{List}
 use Rattle.std.specs.List.{AllByRecursion}
 use Rattle.trace_read.specs.Trace.{AcceptedTrace}
 use Rattle.trace_reply.specs.declared.reply.Reply.{Reply}
-use Rattle.trace_reply.specs.Replies.{RepliedLine, lines_with_replies}
 use Rattle.run_model.specs.DeviceLandings.{DeviceLands}
+use Rattle.run_model.specs.EachReplied.{EachReplied}
 use Rattle.run_model.specs.Sections.{sections_of}
 use Rattle.run_model.specs.ShownStores.{NoStoreIsLostIn, NoSetBitIsLostIn, ClearedBitsAreShown}
 use Rattle.run_model.specs.CommittedResizes.{ResizesKeepTranslations}
@@ -19,8 +19,5 @@ pub record Assures (t : AcceptedTrace) (rs : List Reply) : Type 0 where
   pub cleared : AllByRecursion ClearedBitsAreShown (sections_of t rs)
   pub pages : ResizesKeepTranslations (sections_of t rs)
   pub landings : AllByRecursion (AccessesLand t.config.granted) (sections_of t rs)
-  pub devices :
-      AllByRecursion
-      (λ (x : RepliedLine). DeviceLands t.config.granted x.line.act x.reply)
-      (lines_with_replies t.lines rs)
+  pub devices : EachReplied (DeviceLands t.config.granted) t rs
   pub unworn : AllByRecursion IsUnworn rs

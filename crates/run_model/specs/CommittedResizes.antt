@@ -1,6 +1,6 @@
 -- What quiet lines leave of the table: a committed resize keeps each bolted page's translation, and
 -- no other line changes the table.
-use Rattle.std.specs.Prelude.{◌≡◌, Bool, true, false, not, List, [], ◌∷◌, Option, Some, None}
+use Rattle.std.specs.Prelude.{◌≡◌, Bool, true, false, not, List, ◌∷◌, Option, Some, None}
 use Rattle.papr_codes.specs.declared.calls.Hcall.{Hcall}
 use Rattle.papr_codes.specs.Hcalls.{hcall_of}
 use Rattle.hpt_resize.specs.Resize.{Table}
@@ -46,7 +46,6 @@ pub record LeavesTable (s next : Section) : Type 0 where
 
 -- Each quiet line leaves the next section the table, or a new one with its translations.
 abbrev pub ResizesKeepTranslations : List Section → Type 0
-ResizesKeepTranslations [] = Unit {0}
-ResizesKeepTranslations (s ∷ []) = Unit {0}
 ResizesKeepTranslations (s ∷ next ∷ rest) =
     LeavesTable s next × ResizesKeepTranslations (next ∷ rest)
+ResizesKeepTranslations other = Unit {0}

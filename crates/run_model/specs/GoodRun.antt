@@ -1,17 +1,16 @@
 -- The good run: replies that place each call on an entry once in that entry's legal history, and
 -- never before what its processor had seen.
-use Rattle.std.specs.Prelude.{◌≡◌, ℕ, ◌<◌, List, [], ◌∷◌, length, IfSome}
+use Rattle.std.specs.Prelude.{◌≡◌, ℕ, ◌<◌, List, [], ◌∷◌, IfSome}
 use Rattle.std.specs.List.{AllByRecursion}
 use Rattle.entry_model.specs.State.{State}
-use Rattle.entry_model.specs.declared.receipt.Receipt.{Receipt}
-use Rattle.entry_model.specs.History.{IsLegal, history, pair_of}
+use Rattle.entry_model.specs.History.{pair_of}
 use Rattle.entry_model.specs.Run.{state_at}
 use Rattle.hpt_walk.specs.Access.{AccessContext}
 use Rattle.tlb_model.specs.Processor.{Processor}
 use Rattle.trace_read.specs.Trace.{AcceptedTrace}
 use Rattle.trace_reply.specs.declared.reply.Reply.{Reply}
 use Rattle.trace_reply.specs.Replies.{RepliedLine, AreReplies}
-use Rattle.run_model.specs.Histories.{lines_of_processor, InOrder, events_by}
+use Rattle.run_model.specs.Histories.{AreLegalBetween, lines_of_processor, InOrder, events_by}
 use Rattle.run_model.specs.LineReplies.{IsCallReply, IsReplyToAccess}
 use Rattle.run_model.specs.Processors.{processor_at, processor_after, gone_line_of}
 use Rattle.run_model.specs.QuietLines.{run_quiet_line}
@@ -54,15 +53,8 @@ pub record IsAccessLine
 -- ---- a section
 -- Each receipt is of an entry of the store, and each entry's history is legal, from the state that
 -- it opens on to the one that it closes on.
-pub record AreLegal (s : Section) : Type 0 where
-  pub in_table : AllByRecursion (λ (r : Receipt). r.entry < length (states_of s.before)) (made_in s)
-  pub legal :
-      (entry : ℕ)
-      → entry < length (states_of s.before)
-      → IsLegal
-      (state_at (states_of s.before) entry)
-      (history entry (made_in s))
-      (state_at (states_of (closing s)) entry)
+abbrev pub AreLegal : Section → Type 0
+AreLegal s = AreLegalBetween (states_of s.before) (states_of (closing s)) (made_in s)
 
 -- On each entry each processor's receipts keep its front, which begins at the state that the entry
 -- opens on.

@@ -1,11 +1,13 @@
--- The states that a section's receipts close on, and what a processor learns of an entry in its own
--- order.
-use Rattle.std.specs.Prelude.{ℕ, zero, suc, ◌≤◌, ◌==◌, ◌++◌, List, [], ◌∷◌, Option, Some, None, filter, map, max, MatchBool, if◌then◌else◌}
+-- The histories of a section's receipts, the states that they close on, and what a processor learns
+-- of an entry in its own order.
+use Rattle.std.specs.Prelude.{ℕ, zero, suc, ◌≤◌, ◌<◌, ◌==◌, ◌++◌, List, [], ◌∷◌, Option, Some, None, filter, length, map, max, MatchBool, if◌then◌else◌}
+use Rattle.std.specs.List.{AllByRecursion}
 use Rattle.entry_model.specs.State.{State}
 use Rattle.entry_model.specs.declared.line.Line.{Line}
 use Rattle.entry_model.specs.declared.receipt.Receipt.{Receipt}
 use Rattle.entry_model.specs.Receipt.{after_of}
-use Rattle.entry_model.specs.History.{history, last_after, pair_of}
+use Rattle.entry_model.specs.History.{IsLegal, history, last_after, pair_of}
+use Rattle.entry_model.specs.Run.{state_at}
 use Rattle.tlb_model.specs.Processor.{Processor}
 use Rattle.trace_reply.specs.Replies.{RepliedLine, receipts_in}
 use Rattle.run_model.specs.Processors.{processor_after, gone_line_of}
@@ -27,6 +29,13 @@ abbrev pub receipts_from_processor : ℕ → ℕ → List RepliedLine → List R
 receipts_from_processor zero cpu ts = []
 receipts_from_processor (suc n) cpu ts =
     receipts_by (lines_of_processor cpu ts) ++ receipts_from_processor n (suc cpu) ts
+
+-- Each receipt is of an entry of the old states, and each entry's history is legal, from its old
+-- state to its new one.
+pub record AreLegalBetween (old new : List State) (rs : List Receipt) : Type 0 where
+  pub in_table : AllByRecursion (λ (r : Receipt). r.entry < length old) rs
+  pub legal :
+      (e : ℕ) → e < length old → IsLegal (state_at old e) (history e rs) (state_at new e)
 
 -- ---- closing states
 -- Each entry's last state after in its history; with no receipt the state that it opens on.

@@ -11,10 +11,11 @@ use Rattle.entry_model.specs.Reply.{words_of}
 use Rattle.trace_read.specs.Configuration.{Configuration}
 use Rattle.trace_read.specs.Trace.{AcceptedTrace, IsAccepted}
 use Rattle.trace_reply.specs.declared.reply.Reply.{Reply}
-use Rattle.trace_reply.specs.Replies.{RepliedLine, AreReplies, lines_with_replies}
+use Rattle.trace_reply.specs.Replies.{AreReplies}
 use Rattle.bus_window.specs.Windows.{BusWindow}
 use Rattle.run_model.specs.BusyCalls.{BusyWhereTaken, PutIsNotBusy}
 use Rattle.run_model.specs.DeviceLandings.{DeviceLands}
+use Rattle.run_model.specs.EachReplied.{EachReplied}
 use Rattle.run_model.specs.EnteredEntries.{CanBeEntered}
 use Rattle.run_model.specs.OpeningAgain.{IsOpenedAgain, entry_line_words, memory_after}
 use Rattle.run_model.specs.Stores.{states_of}
@@ -69,102 +70,69 @@ SerialIsTheOneGoodRun =
     → rs ≡ serial_replies t
 
 -- ---- what good runs assure
+-- The replies of each good run have this property.
+abbrev pub OfGoodRuns : (AcceptedTrace → List Reply → Type 0) → Type 0
+OfGoodRuns P = (t : AcceptedTrace) (rs : List Reply) → IsGoodRun t rs → P t rs
+
+-- The replies of each good run of an accepted trace have this property.
+abbrev pub OfAcceptedRuns : (AcceptedTrace → List Reply → Type 0) → Type 0
+OfAcceptedRuns P =
+    (t : AcceptedTrace) (rs : List Reply) → IsAccepted t → IsGoodRun t rs → P t rs
+
 -- In a good run every store that succeeds shows in a change bit until a reply reports or clears it.
 abbrev pub NoStoreIsLost : Type 0
-NoStoreIsLost =
-    (t : AcceptedTrace) (rs : List Reply)
-    → IsAccepted t
-    → IsGoodRun t rs
-    → NoStoreIsLostIn (sections_of t rs)
+NoStoreIsLost = OfAcceptedRuns (λ t rs. NoStoreIsLostIn (sections_of t rs))
 
 -- In a good run every change bit that is set when a section begins, and so when the run begins,
 -- shows until a reply reports or clears it.
 abbrev pub NoSetBitIsLost : Type 0
-NoSetBitIsLost =
-    (t : AcceptedTrace) (rs : List Reply)
-    → IsAccepted t
-    → IsGoodRun t rs
-    → NoSetBitIsLostIn (sections_of t rs)
+NoSetBitIsLost = OfAcceptedRuns (λ t rs. NoSetBitIsLostIn (sections_of t rs))
 
 -- In a good run the reply that clears a change bit shows it.
 abbrev pub ClearingRepliesShow : Type 0
-ClearingRepliesShow =
-    (t : AcceptedTrace) (rs : List Reply)
-    → IsGoodRun t rs
-    → AllByRecursion ClearedBitsAreShown (sections_of t rs)
+ClearingRepliesShow = OfGoodRuns (λ t rs. AllByRecursion ClearedBitsAreShown (sections_of t rs))
 
 -- In a good run a committed resize keeps each bolted page's translation, and no other line changes
 -- the table between two sections.
 abbrev pub ResizesKeepBoltedPages : Type 0
-ResizesKeepBoltedPages =
-    (t : AcceptedTrace) (rs : List Reply)
-    → IsAccepted t
-    → IsGoodRun t rs
-    → ResizesKeepTranslations (sections_of t rs)
+ResizesKeepBoltedPages = OfAcceptedRuns (λ t rs. ResizesKeepTranslations (sections_of t rs))
 
 -- In a good run each access that is allowed, by a walk or by a cached line, lands where an entry
 -- that was then one of its page maps it: in a grant, and in no table. None is ungranted.
 abbrev pub AccessesLandByTheirEntries : Type 0
 AccessesLandByTheirEntries =
-    (t : AcceptedTrace) (rs : List Reply)
-    → IsAccepted t
-    → IsGoodRun t rs
-    → AllByRecursion (AccessesLand t.config.granted) (sections_of t rs)
+    OfAcceptedRuns (λ t rs. AllByRecursion (AccessesLand t.config.granted) (sections_of t rs))
 
 -- In a good run each access of a device that is allowed lands where the TCE in its receipt maps the
 -- page: in granted main storage, and in no table. None is ungranted.
 abbrev pub DevicesLandByTheirTces : Type 0
-DevicesLandByTheirTces =
-    (t : AcceptedTrace) (rs : List Reply)
-    → IsAccepted t
-    → IsGoodRun t rs
-    → AllByRecursion
-    (λ (x : RepliedLine). DeviceLands t.config.granted x.line.act x.reply)
-    (lines_with_replies t.lines rs)
+DevicesLandByTheirTces = OfAcceptedRuns (λ t. EachReplied (DeviceLands t.config.granted) t)
 
 -- In a good run no reply is H_HARDWARE.
 abbrev pub NoEntryIsWorn : Type 0
-NoEntryIsWorn =
-    (t : AcceptedTrace) (rs : List Reply)
-    → IsAccepted t
-    → IsGoodRun t rs
-    → AllByRecursion IsUnworn rs
+NoEntryIsWorn = OfAcceptedRuns (λ t rs. AllByRecursion IsUnworn rs)
 
 -- In a good run a hit is by a cached line that is current at the hit's place, and a walk goes past
 -- a cached line only where its entry has left the line's stamp.
 abbrev pub CachedLinesAreCurrentOrGone : Type 0
 CachedLinesAreCurrentOrGone =
-    (t : AcceptedTrace) (rs : List Reply)
-    → IsGoodRun t rs
-    → AllByRecursion AccessesUseCaches (sections_of t rs)
+    OfGoodRuns (λ t rs. AllByRecursion AccessesUseCaches (sections_of t rs))
 
 -- ---- H_PUT_TCE and H_BUSY
 -- In a good run the reply of an H_PUT_TCE is H_BUSY exactly where a receipt of it says Taken.
 abbrev pub PutsAreBusyWhereTaken : Type 0
-PutsAreBusyWhereTaken =
-    (t : AcceptedTrace) (rs : List Reply)
-    → IsGoodRun t rs
-    → AllByRecursion
-    (λ (x : RepliedLine). BusyWhereTaken x.line.act x.reply)
-    (lines_with_replies t.lines rs)
+PutsAreBusyWhereTaken = OfGoodRuns (EachReplied BusyWhereTaken)
 
 -- In the serial run no reply of an H_PUT_TCE is H_BUSY.
 abbrev pub SerialPutsAreNotBusy : Type 0
 SerialPutsAreNotBusy =
-    (t : AcceptedTrace)
-    → IsAccepted t
-    → AllByRecursion
-    (λ (x : RepliedLine). PutIsNotBusy x.line.act x.reply)
-    (lines_with_replies t.lines (serial_replies t))
+    (t : AcceptedTrace) → IsAccepted t → EachReplied PutIsNotBusy t (serial_replies t)
 
 -- ---- masks
 -- In a good run an access is refused by a mask exactly where protection allows it by the entry that
 -- it ended with, and a mask of its processor refuses it for the entry's key.
 abbrev pub MasksRefuseExactlyWhere : Type 0
-MasksRefuseExactlyWhere =
-    (t : AcceptedTrace) (rs : List Reply)
-    → IsGoodRun t rs
-    → AllByRecursion MasksRefuse (sections_of t rs)
+MasksRefuseExactlyWhere = OfGoodRuns (λ t rs. AllByRecursion MasksRefuse (sections_of t rs))
 
 -- In a good run of a trace that sets no mask but to 0, no access is refused by a mask: each entry
 -- answers by its protection alone.
@@ -181,28 +149,22 @@ ZeroMasksRefuseNothing =
 -- removed.
 abbrev pub RefusedLinesChangeNothing : Type 0
 RefusedLinesChangeNothing =
-    (t : AcceptedTrace) (rs : List Reply)
-    → IsAccepted t
-    → IsGoodRun t rs
-    → AllByRecursion RefusedLinesLeave (sections_of t rs)
+    OfAcceptedRuns (λ t rs. AllByRecursion RefusedLinesLeave (sections_of t rs))
 
 -- In a good run a refused line on a window changes no entry of it; but an H_PUT_TCE that ends with
 -- H_BUSY or H_HARDWARE has removed the TCE that was there.
 abbrev pub RefusedWindowLinesChangeNothing : Type 0
 RefusedWindowLinesChangeNothing =
-    (t : AcceptedTrace) (rs : List Reply)
-    → IsGoodRun t rs
-    → AllByRecursion
+    OfGoodRuns
+    (λ t rs.
+    AllByRecursion
     (λ (w : BusWindow). AllByRecursion RefusedWindowLinesLeave (window_sections t rs w))
-    t.config.windows
+    t.config.windows)
 
 -- In a good run a refused resize call changes nothing; but a prepare that answers H_NO_MEM and a
 -- commit that answers H_PTEG_FULL have dropped the pending table.
 abbrev pub RefusedResizesChangeNothing : Type 0
-RefusedResizesChangeNothing =
-    (t : AcceptedTrace) (rs : List Reply)
-    → IsGoodRun t rs
-    → RefusedQuietLinesLeave (sections_of t rs)
+RefusedResizesChangeNothing = OfGoodRuns (λ t rs. RefusedQuietLinesLeave (sections_of t rs))
 
 -- ---- what entries are
 -- Whatever lines the serial run of an accepted trace's configuration executes, each valid entry is

@@ -1,5 +1,6 @@
 pub mod StoreContexts
 pub mod Quiet
+pub mod EachReplied
 pub mod Stores
 pub mod QuietLines
 pub mod AllStores

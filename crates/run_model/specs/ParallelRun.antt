@@ -7,7 +7,6 @@ use Rattle.entry_model.specs.declared.line.Line.{Line}
 use Rattle.entry_model.specs.declared.receipt.Receipt.{Receipt}
 use Rattle.entry_model.specs.Run.{state_at}
 use Rattle.entry_model.specs.CachedLines.{AllLater}
-use Rattle.entry_model.specs.History.{IsLegal, history}
 use Rattle.entry_model.specs.Fronts.{opening_fronts, KeepsFronts, IsGone}
 use Rattle.tlb_model.specs.Processor.{Processor}
 use Rattle.trace_line.specs.declared.act.Act.{Act}
@@ -19,7 +18,7 @@ use Rattle.run_model.specs.LineReplies.{IsCallReply, IsReplyToAccess}
 use Rattle.run_model.specs.Processors.{processor_at, processor_after, gone_line_of}
 use Rattle.run_model.specs.Quiet.{QuietPart, cut}
 use Rattle.run_model.specs.QuietLines.{run_quiet_line}
-use Rattle.run_model.specs.Sections.{Section, made_in, closing_on, after_quiet, quiet_on, section_of}
+use Rattle.run_model.specs.Sections.{Section, AreLegalTo, closing_on, after_quiet, quiet_on, section_of}
 use Rattle.run_model.specs.StoreContexts.{StoreContext, access_of}
 use Rattle.run_model.specs.Stores.{Store, context_of, states_of, opening_stores, is_on}
 
@@ -69,14 +68,7 @@ AllWork s fronts =
 -- processor's fronts has a lower stamp than its entry.
 pub record IsClosed (s : Section) (fronts : ℕ → List ℕ) (states : List State) : Type 0 where
   pub size : length states ≡ length (states_of s.before)
-  pub in_table : AllByRecursion (λ (r : Receipt). r.entry < length (states_of s.before)) (made_in s)
-  pub legal :
-      (entry : ℕ)
-      → entry < length (states_of s.before)
-      → IsLegal
-      (state_at (states_of s.before) entry)
-      (history entry (made_in s))
-      (state_at states entry)
+  pub legal : AreLegalTo s states
   pub gone :
       (cpu : ℕ) (line : Line)
       → IsGone (fronts cpu) line

@@ -1,5 +1,5 @@
 -- Lines cut at the quiet ones.
-use Rattle.std.specs.Prelude.{◌≡◌, ℕ, ◌<◌, false, List, [], ◌∷◌, if◌then◌else◌}
+use Rattle.std.specs.Prelude.{◌≡◌, false, List, [], ◌∷◌, if◌then◌else◌}
 use Rattle.std.specs.List.{AllByRecursion}
 use Rattle.trace_line.specs.Lines.{is_quiet}
 use Rattle.trace_line.specs.declared.line.TraceLine.{TraceLine}
@@ -22,7 +22,3 @@ cut (t ∷ ts) = cut_before t (cut ts)
 -- None of the lines is quiet.
 abbrev pub NoneQuiet : List TraceLine → Type 0
 NoneQuiet ls = AllByRecursion (λ (l : TraceLine). is_quiet l.act ≡ false) ls
-
--- Each line's processor is one of so many.
-abbrev pub AreOnProcessors : ℕ → List TraceLine → Type 0
-AreOnProcessors cpus ls = AllByRecursion (λ (l : TraceLine). l.cpu < cpus) ls

@@ -10,7 +10,7 @@ use Rattle.trace_line.specs.declared.act.Act.{Act}
 use Rattle.trace_read.specs.Trace.{AcceptedTrace}
 use Rattle.trace_reply.specs.declared.reply.Reply.{Reply}
 use Rattle.trace_reply.specs.Replies.{RepliedLine, lines_with_replies}
-use Rattle.run_model.specs.Histories.{lines_of_processor, receipts_from_processor, closing_states}
+use Rattle.run_model.specs.Histories.{lines_of_processor, receipts_from_processor, closing_states, AreLegalBetween}
 use Rattle.run_model.specs.Processors.{processor_after}
 use Rattle.run_model.specs.Quiet.{QuietPart, cut}
 use Rattle.run_model.specs.QuietLines.{run_quiet_line}
@@ -67,6 +67,10 @@ closing s = section_end s.before s.replied_lines
 -- The store behind a section that closes on these states.
 abbrev pub closing_on : Section → List State → Store
 closing_on s states = section_end_on s.before s.replied_lines states
+
+-- The section's receipts are legal histories, from the states that it opens on to these.
+abbrev pub AreLegalTo : Section → List State → Type 0
+AreLegalTo s states = AreLegalBetween (states_of s.before) states (made_in s)
 
 -- A quiet line acts on its store, and leaves the others.
 abbrev pub after_quiet : Store → Option RepliedLine → Store

@@ -1,5 +1,5 @@
 -- No store is lost: a store that succeeds shows in a change bit until a reply reports or clears it.
-use Rattle.std.specs.Prelude.{◌≡◌, ℕ, ◌<◌, ◌==◌, Bool, true, false, IsTrue, List, [], ◌∷◌, length, slice_index, Option, Some, MatchBool, MatchOption, if◌then◌else◌}
+use Rattle.std.specs.Prelude.{◌≡◌, ℕ, ◌<◌, ◌==◌, Bool, true, false, ◌&&◌, IsTrue, List, [], ◌∷◌, length, slice_index, Option, Some, MatchBool, MatchOption, if◌then◌else◌}
 use Rattle.std.specs.List.{AllByRecursion}
 use Rattle.papr_codes.specs.declared.calls.Hcall.{Hcall}
 use Rattle.papr_codes.specs.Hcalls.{hcall_of}
@@ -38,8 +38,7 @@ clears r = clears_by r.op r.answer
 
 -- A store that was allowed.
 abbrev pub stores_by : Op → Answer → Bool
-stores_by (ops.Access tag base key no_execute want masks) answer =
-    if is_store want then is_at answer else false
+stores_by (ops.Access tag base key no_execute want masks) answer = is_store want && is_at answer
 stores_by op answer = false
 
 -- The receipt is one of a store that was allowed.
@@ -53,10 +52,6 @@ abbrev pub ShowsChange : List Receipt → State → Type 0 → Type 0
 ShowsChange [] last after = (last.changed ≡ true) × after
 ShowsChange (r ∷ rs) last after =
     (r.before.changed ≡ true) × MatchBool (clears r) (Unit {0}) (ShowsChange rs last after)
-
--- The history of an entry in a section.
-abbrev pub history_in : Section → ℕ → List Receipt
-history_in s entry = history entry (made_in s)
 
 -- The state that the entry closes on.
 abbrev pub closing_state : Section → ℕ → State
@@ -113,7 +108,7 @@ StaysShown s entry (next ∷ rest) =
     (carried_to s next entry)
     (Unit {0})
     (λ target. ShowsChange
-    (history_in next target)
+    (history target (made_in next))
     (closing_state next target)
     (StaysShown next target rest))
 
@@ -129,7 +124,7 @@ NoStoreIsLostIn [] = Unit {0}
 NoStoreIsLostIn (s ∷ rest) =
     ((entry : ℕ)
     → entry < length (states_of s.before)
-    → StoresAreShown (history_in s entry) (closing_state s entry) (StaysShown s entry rest))
+    → StoresAreShown (history entry (made_in s)) (closing_state s entry) (StaysShown s entry rest))
     × NoStoreIsLostIn rest
 
 -- ---- bits that are set already
@@ -141,5 +136,5 @@ NoSetBitIsLostIn (s ∷ rest) =
     ((entry : ℕ)
     → (state_at (states_of s.before) entry).valid ≡ true
     → (state_at (states_of s.before) entry).changed ≡ true
-    → ShowsChange (history_in s entry) (closing_state s entry) (StaysShown s entry rest))
+    → ShowsChange (history entry (made_in s)) (closing_state s entry) (StaysShown s entry rest))
     × NoSetBitIsLostIn rest

@@ -5,5 +5,4 @@ pub mod Held
 pub mod HeldFacts
 pub mod Workings
 pub mod Attempts
-pub mod Holding
 pub mod Owned

@@ -7,7 +7,9 @@ use std_alloc::room::Vacant;
 
 /// What a box is made of: its pointer, and the allocator of its block.
 pub struct Parts<T, A: Allocator> {
+    /// Where the value lies.
     pub ptr: *mut T,
+    /// The allocator that the block is of.
     pub alloc: A,
     pub ghost value: { T },
 }

@@ -1,5 +1,4 @@
-ghost use Rattle.std.specs.Prelude.{◌≡◌};
-ghost use Rattle.shared_pass.specs.Holding.{is_some};
+ghost use Rattle.std.specs.Prelude.{◌≡◌, is_some};
 
 use crate::pointer::WorkingPointer;
 use crate::working::Working;

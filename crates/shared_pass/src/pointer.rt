@@ -1,7 +1,6 @@
-ghost use Rattle.std.specs.Prelude.{◌≡◌, true, Option, Some, None};
+ghost use Rattle.std.specs.Prelude.{◌≡◌, true, Option, Some, None, is_some};
 ghost use Rattle.shared_pass.specs.declared.working.Working.{Working};
 ghost use Rattle.shared_pass.specs.Owned.{held_coded, pointer_owns};
-ghost use Rattle.shared_pass.specs.Holding.{is_some};
 
 use crate::parts::Parts;
 use crate::working::Working;

@@ -1,14 +1,14 @@
 -- Fields of bits: B's place in the newer layout, and what that layout leaves out.
 use Rattle.std.proofs.Common.{◌≡◌, ℕ, ◌+◌, ◌*◌, ◌/◌, ◌%◌, ◌^◌, ◌<◌, arith, ap, sym, ◌∙◌, refl, lit<, bit_and, bit_or}
 use Rattle.std.specs.Int.Bits.{and_mask, and_shr, and_zero_r, or_zero_r, and_comm, or_disjoint}
-use Rattle.std.proofs.lemmas.Nat.{and_block}
-use Rattle.hpte_fields.proofs.Masks.{masks_join, mask_of_or, shifted_apart}
+use Rattle.std.proofs.lemmas.Nat.{and_block, and_assoc}
+use Rattle.hpte_fields.proofs.Masks.{mask_of_or, shifted_apart}
 use Rattle.table_image.specs.Layouts.{unheld, segment_bits, cleared_bit, left_out}
 
 -- What is clear in a mask is clear in a part of it.
 clear_within : (x m part : ℕ) → bit_and m part ≡ part → bit_and x m ≡ 0 → bit_and x part ≡ 0
 clear_within x m part inside none =
-    ap (bit_and x) (sym inside) ∙ sym (masks_join x m part) ∙ ap (λ y. bit_and y part) none
+    ap (bit_and x) (sym inside) ∙ sym (and_assoc part x m) ∙ ap (λ y. bit_and y part) none
 
 -- B, moved to its place, stands inside the place.
 within_bits : (s : ℕ) → s < 4 → bit_and segment_bits (s * 2 ^ 58) ≡ s * 2 ^ 58
@@ -94,7 +94,7 @@ second_back l s fits small none =
     let moved : bit_and (s * 2 ^ 58) 0xF3FFFFFFFFFFFFFF ≡ 0 =
     ap (λ y. bit_and y 0xF3FFFFFFFFFFFFFF)
     (sym (within_bits s small) ∙ and_comm segment_bits (s * 2 ^ 58))
-    ∙ masks_join (s * 2 ^ 58) segment_bits 0xF3FFFFFFFFFFFFFF
+    ∙ and_assoc 0xF3FFFFFFFFFFFFFF (s * 2 ^ 58) segment_bits
     ∙ and_zero_r (s * 2 ^ 58) in
     ap (λ y. bit_and y 0xF3FFFFFFFFFFFFFF) (sym (bits_joined l s small none))
     ∙ mask_of_or l (s * 2 ^ 58) 0xF3FFFFFFFFFFFFFF

@@ -2,9 +2,9 @@
 use Rattle.std.specs.Prelude.{◌==◌, if◌then◌else◌}
 use Rattle.std.proofs.Common.{◌≡◌, ℕ, Bool, true, false, ap, sym, ◌∙◌, refl, bit_and, bit_or}
 use Rattle.std.specs.Int.Bits.{and_zero_l, or_zero_r}
-use Rattle.std.proofs.lemmas.Nat.{and_comm}
+use Rattle.std.proofs.lemmas.Nat.{and_comm, and_assoc}
 use Rattle.hpte_fields.specs.Fields.{is_referenced, is_changed, with_rc, without_rc, stored_second}
-use Rattle.hpte_fields.proofs.Masks.{mask_of_or, masks_join}
+use Rattle.hpte_fields.proofs.Masks.{mask_of_or}
 
 -- One of the bits, as it is put in.
 abbrev one : Bool → ℕ → ℕ
@@ -68,13 +68,13 @@ without_none d kept apart =
     let is : d ≡ bit_and d 0xBFFFFFFFFFFFFE7F = sym kept ∙ parts ∙ ap
     (bit_or (bit_and d 0xBFFFFFFFFFFFFE7F)) apart ∙ or_zero_r (bit_and d 0xBFFFFFFFFFFFFE7F) in
     ap (λ n. bit_and n 0xFFFFFFFFFFFFFE7F) is
-    ∙ masks_join d 0xBFFFFFFFFFFFFE7F 0xFFFFFFFFFFFFFE7F
+    ∙ and_assoc 0xFFFFFFFFFFFFFE7F d 0xBFFFFFFFFFFFFE7F
     ∙ sym is
 
 bit_clear : (d bit : ℕ) → bit_and d 0x180 ≡ 0 → bit_and 0x180 bit ≡ bit → bit_and d bit ≡ 0
 bit_clear d bit apart inside =
     ap (bit_and d) (sym inside)
-    ∙ sym (masks_join d 0x180 bit)
+    ∙ sym (and_assoc bit d 0x180)
     ∙ ap (λ n. bit_and n bit) apart
     ∙ and_zero_l bit
 

@@ -1,11 +1,11 @@
 -- One set keeps at most four lines, each of another page.
-use Rattle.std.proofs.Common.{◌≡◌, ◌<◌, ◌≤◌, List, [], ◌∷◌, ◌++◌, Bool, true, false, not, Some, None, ◌⊎◌, inl, inr, refl, subst, length, filter, remove, arith, length-append}
+use Rattle.std.proofs.Common.{◌≡◌, ◌<◌, List, [], ◌∷◌, ◌++◌, Bool, true, false, not, Some, None, ◌⊎◌, inl, inr, refl, subst, length, filter, remove, arith, length-append}
 use Rattle.std.specs.List.Retain.{RetainsInTurn}
 use Rattle.std.proofs.lemmas.Bool.{cases_Bool, cond_both}
 use Rattle.power_addr.specs.Pages.{VirtualPage, same_page}
 use Rattle.entry_model.specs.declared.line.Line.{Line}
 use Rattle.tlb_model.specs.Cache.{is_of, line_of_page, without_page}
-use Rattle.basics.proofs.Each.{each_append, each_filter}
+use Rattle.basics.proofs.Each.{each_append, each_filter, filter_length}
 use Rattle.power_addr.proofs.SamePages.{page_same, page_self}
 use Rattle.tlb_model.specs.Sets.{AreApart, IsLineSet}
 
@@ -74,17 +74,11 @@ apart_filter p (l ∷ ls) apart =
     (each_filter (λ other. is_of l.page other ≡ false) p ls apart.0, apart_filter p ls apart.1))
     (λ _. apart_filter p ls apart.1)
 
-fewer : (p : Line → Bool) (lines : List Line) → length (filter p lines) ≤ length lines
-fewer p [] = omega arith
-fewer p (l ∷ ls) =
-    cond_both (p l) (l ∷ filter p ls) (filter p ls) (λ kept. length kept ≤ length (l ∷ ls))
-    (λ _. omega (arith, fewer p ls)) (λ _. omega (arith, fewer p ls))
-
 pub without_sound :
     (page : VirtualPage) (lines : List Line) → IsLineSet lines → IsLineSet (without_page page lines)
 without_sound page lines sound =
     record {
-      count = omega (arith, fewer (λ line. not (is_of page line)) lines, sound.count);
+      count = omega (arith, filter_length (λ line. not (is_of page line)) lines, sound.count);
       apart = apart_filter (λ line. not (is_of page line)) lines sound.apart;
     }
 

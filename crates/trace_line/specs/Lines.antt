@@ -61,11 +61,19 @@ most_quiet_lines = 256
 abbrev pub most_dumps : ℕ
 most_dumps = 16
 
+-- How many of the lines have an act that passes.
+abbrev pub count_acts : (Act → Bool) → List TraceLine → ℕ
+count_acts passes lines = count_by (λ (l : TraceLine). passes l.act) lines
+
+-- Each line's processor is one of so many.
+abbrev pub AreOnProcessors : ℕ → List TraceLine → Type 0
+AreOnProcessors cpus lines = AllByRecursion (λ (l : TraceLine). l.cpu < cpus) lines
+
 -- Each line has one of the processors, and there are no more lines, quiet ones and dumps than may
 -- be.
 pub record IsTrace (cpus : ℕ) (lines : List TraceLine) : Type 0 where
-  pub on_cpus : AllByRecursion (λ (l : TraceLine). l.cpu < cpus) lines
+  pub on_cpus : AreOnProcessors cpus lines
   pub spelt : AllByRecursion (λ (l : TraceLine). IsSpelt l.act) lines
   pub few : length lines ≤ most_lines
-  pub few_quiet : count_by (λ (l : TraceLine). is_quiet l.act) lines ≤ most_quiet_lines
-  pub few_dumps : count_by (λ (l : TraceLine). is_dump l.act) lines ≤ most_dumps
+  pub few_quiet : count_acts is_quiet lines ≤ most_quiet_lines
+  pub few_dumps : count_acts is_dump lines ≤ most_dumps

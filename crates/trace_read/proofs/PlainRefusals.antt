@@ -14,8 +14,8 @@ use Rattle.trace_read.specs.declared.why.Why.{Why}
 use Rattle.trace_read.specs.declared.why.Why.TheVariants as whys
 use Rattle.trace_read.specs.Acts.{number_at, arguments_from, mode_at, act_by, read_act, dump_act}
 use Rattle.trace_read.specs.Configuration.{Configuration}
-use Rattle.trace_line.specs.Lines.{is_quiet, is_dump}
-use Rattle.trace_read.specs.Counts.{may_add, dump_count, quiet_count}
+use Rattle.trace_line.specs.Lines.{is_quiet, is_dump, count_acts}
+use Rattle.trace_read.specs.Counts.{may_add}
 use Rattle.trace_read.specs.Entries.{layout_named, is_above, is_stored, entry_named, with_entry}
 use Rattle.trace_read.specs.Forms.{verb_of, form_named, run_form, form_of, begins_with_digit}
 use Rattle.trace_read.specs.Numbers.{number_of}
@@ -242,5 +242,7 @@ plain_dump ws = plain_steps _ _ (plain_guard _ whys.Count refl) (λ counted. pla
 pub plain_room : (lines : List TraceLine) (act : Act) → IsPlain (may_add lines act)
 unfolding may_add
 plain_room lines act =
-    plain_steps _ _ (plain_guard (not (is_dump act && leb 16 (dump_count lines))) whys.Dumps refl)
-    (λ dumps. plain_guard (not (is_quiet act && leb 256 (quiet_count lines))) whys.Quiet refl)
+    plain_steps _ _
+    (plain_guard (not (is_dump act && leb 16 (count_acts is_dump lines))) whys.Dumps refl)
+    (λ dumps.
+    plain_guard (not (is_quiet act && leb 256 (count_acts is_quiet lines))) whys.Quiet refl)

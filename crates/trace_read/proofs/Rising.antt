@@ -11,27 +11,24 @@ use Rattle.table_image.specs.declared.entry.ImageEntry.{ImageEntry}
 use Rattle.trace_read.specs.Configuration.{AreRising, AreOpeningEntries, IsOpeningEntry}
 use Rattle.trace_read.specs.Entries.{is_above, is_stored}
 use Rattle.std.proofs.Math.Bool.{and-true}
-
--- What holds of each and of one more.
-pub all_push : {A : Type 0} (P : A → Type 0) (xs : List A) (x : A) → AllByRecursion P xs → P x
-    → AllByRecursion P (xs ++ x ∷ [])
-all_push P [] x each here = (here, tt)
-all_push P (y ∷ ys) x each here = (each.0, all_push P ys x each.1 here)
+use Rattle.basics.proofs.Each.{each_append}
 
 -- One more entry, above those before.
 rising_push : (es : List ImageEntry) (e : ImageEntry) → AreRising es → is_above es e.index ≡ true
     → AreRising (es ++ e ∷ [])
 rising_push [] e rising above = (tt, tt)
 rising_push (d ∷ ds) e rising above =
-    let parts = and_parts (ltb d.index e.index) (is_above ds e.index) above in
-    (all_push _ ds e rising.0 (ltb-true _ _ parts.0), rising_push ds e rising.1 parts.1)
+    let parts = and_parts (ltb d.index e.index) (is_above ds e.index) above in (
+      each_append _ ds (e ∷ []) rising.0 (ltb-true _ _ parts.0, tt),
+      rising_push ds e rising.1 parts.1,
+    )
 
 pub AreOpeningEntries-push :
     (order : ℕ) (grants : List Grant) (es : List ImageEntry) (e : ImageEntry)
     → AreOpeningEntries order grants es → IsOpeningEntry order grants e → is_above es e.index ≡ true
     → AreOpeningEntries order grants (es ++ e ∷ [])
 AreOpeningEntries-push order grants es e opening here above = record {
-  each = all_push _ es e opening.each here;
+  each = each_append _ es (e ∷ []) opening.each (here, tt);
   rising = rising_push es e opening.rising above;
 }
 

@@ -1,34 +1,26 @@
 -- The quiet lines and the dumps among the run lines, and whether a further line may come.
-use Rattle.std.specs.Prelude.{◌≡◌, ◌≤◌, ℕ, ◌&&◌, List, count_by, nat_le, not, Result}
+use Rattle.std.specs.Prelude.{◌≡◌, ◌≤◌, ℕ, ◌&&◌, List, nat_le, not, Result}
 use Rattle.trace_line.specs.declared.act.Act.{Act}
 use Rattle.trace_line.specs.declared.line.TraceLine.{TraceLine}
 use Rattle.trace_read.specs.declared.why.Why.{Why}
 use Rattle.trace_read.specs.declared.why.Why.TheVariants.{Dumps, Quiet}
-use Rattle.trace_line.specs.Lines.{is_quiet, is_dump, most_dumps, most_quiet_lines}
+use Rattle.trace_line.specs.Lines.{is_quiet, is_dump, most_dumps, most_quiet_lines, count_acts}
 use Rattle.trace_read.specs.Whys.{◌>>=◌, guard}
-
--- How many of the lines are quiet.
-abbrev pub quiet_count : List TraceLine → ℕ
-quiet_count lines = count_by (λ (l : TraceLine). is_quiet l.act) lines
-
--- How many of them are dumps.
-abbrev pub dump_count : List TraceLine → ℕ
-dump_count lines = count_by (λ (l : TraceLine). is_dump l.act) lines
 
 -- No more dumps, and no more quiet lines, than a trace may have.
 unfoldable pub may_add : List TraceLine → Act → Result (Unit {0}) Why
 may_add lines act = do
-  dumps ← guard (not (is_dump act && nat_le most_dumps (dump_count lines))) Dumps
-  guard (not (is_quiet act && nat_le most_quiet_lines (quiet_count lines))) Quiet
+  dumps ← guard (not (is_dump act && nat_le most_dumps (count_acts is_dump lines))) Dumps
+  guard (not (is_quiet act && nat_le most_quiet_lines (count_acts is_quiet lines))) Quiet
 
 -- No more than a trace may have.
 pub record AreFew (lines : List TraceLine) : Type 0 where
-  pub quiet_lines : quiet_count lines ≤ most_quiet_lines
-  pub dump_lines : dump_count lines ≤ most_dumps
+  pub quiet_lines : count_acts is_quiet lines ≤ most_quiet_lines
+  pub dump_lines : count_acts is_dump lines ≤ most_dumps
 
 -- What is counted.
 pub record IsCounted (quiet dumps : ℕ) (lines : List TraceLine) : Type 0 where
-  pub quiet_lines : quiet_count lines ≡ quiet
-  pub dump_lines : dump_count lines ≡ dumps
+  pub quiet_lines : count_acts is_quiet lines ≡ quiet
+  pub dump_lines : count_acts is_dump lines ≡ dumps
   pub few_quiet : quiet ≤ most_quiet_lines
   pub few_dumps : dumps ≤ most_dumps

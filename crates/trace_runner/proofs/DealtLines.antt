@@ -4,6 +4,7 @@ use Rattle.std.proofs.Common.{◌≡◌, ◌≢◌, ℕ, suc, ◌+◌, ◌<◌, 
 use Rattle.std.specs.List.{AllByRecursion}
 use Rattle.std.proofs.lemmas.Bool.{cases_Bool, eq-eqb}
 use Rattle.std.proofs.lemmas.List.{get_or_default, get_or-map, length-map, map-append, take_all}
+use Rattle.basics.proofs.Each.{each_append}
 use Rattle.trace_line.specs.declared.line.TraceLine.{TraceLine}
 use Rattle.trace_runner.specs.Workers.{lines_of_cpu, count_with_lines, IsReadAt, AreOwn, AllNumbered}
 use Rattle.trace_runner.specs.DealtLines.{AreDealt, AllEmpty, count_with_own}
@@ -13,21 +14,13 @@ use Rattle.trace_runner.proofs.WorkSteps.{own_more, own_same}
 use Rattle.trace_line.specs.Lines.{past_lines}
 
 -- ---- lines at indices
-inside_push :
-    (n : ℕ) (indices : List ℕ) (i : ℕ)
-    → i < n
-    → AllByRecursion (λ i. i < n) indices
-    → AllByRecursion (λ i. i < n) (indices ++ i ∷ [])
-inside_push n [] i low h = (low, tt)
-inside_push n (j ∷ js) i low h = (h.0, inside_push n js i low h.1)
-
 read_push :
     (lines : List TraceLine) (indices : List ℕ) (own : List TraceLine) (i : ℕ) (d : TraceLine)
     → i < length lines
     → IsReadAt lines indices own
     → IsReadAt lines (indices ++ i ∷ []) (own ++ get_or lines i d ∷ [])
 read_push lines indices own i d low h = record {
-  inside = inside_push (length lines) indices i low h.inside;
+  inside = each_append (λ i. i < length lines) indices (i ∷ []) h.inside (low, tt);
   read =
       λ e.
       map-append (λ j. slice_index_or lines j e) indices (i ∷ [])

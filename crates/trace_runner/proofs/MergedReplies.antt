@@ -4,6 +4,7 @@ use Rattle.std.proofs.Common.{◌≡◌, ◌≢◌, ℕ, ◌+◌, ◌<◌, ◌�
 use Rattle.std.specs.List.{AllByRecursion}
 use Rattle.std.proofs.lemmas.Bool.{eqb-true, eq-eqb, eqb-false}
 use Rattle.std.proofs.lemmas.List.{drop_more, take_more, drop_all, take_all, get_or-set_same, get_or-set_other, length-set}
+use Rattle.run_model.proofs.LineReceipts.{lines_append}
 use Rattle.bus_window.specs.Windows.{BusWindow}
 use Rattle.trace_line.specs.declared.line.TraceLine.{TraceLine}
 use Rattle.trace_reply.specs.declared.reply.Reply.{Reply}
@@ -15,7 +16,7 @@ use Rattle.trace_runner.specs.StoreRuns.{AllKeep, StoresKeep}
 use Rattle.trace_runner.specs.Sectioned.{HasGrown, AddsReplies}
 use Rattle.trace_runner.proofs.Numbered.{all_at, all_set}
 use Rattle.run_model.proofs.StoreNumbers.{not_eqb}
-use Rattle.trace_runner.proofs.WorkSteps.{replied_lines_more, kinds_more}
+use Rattle.trace_runner.proofs.WorkSteps.{kinds_more}
 use Rattle.trace_runner.proofs.ToldReplies.{line_yes, line_no, on_yes, on_no, Told, rest_after, stores_after, told_after}
 
 -- ---- the logs of one store
@@ -250,7 +251,7 @@ module _ {L O Z : Type 0} (keeps : Keeping L) (has : Keeping O) (ws : List BusWi
     told =
         sym
         (ap (λ ls. lines_with_replies ls (m.news ++ x ∷ [])) front
-        ∙ replied_lines_more (take k lines) (l ∷ []) m.news (x ∷ []) m.kinds)
+        ∙ lines_append (take k lines) (l ∷ []) m.news (x ∷ []) m.kinds)
 
     IsKept : ℕ → (ℕ → ℕ → List Reply) → ℕ → Vec L Z → Type 0
     IsKept j rs store v = AllKeep keeps (lines_on_store ws store (drop j lines)) (rs store) v.items

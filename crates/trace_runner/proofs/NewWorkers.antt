@@ -105,10 +105,6 @@ first_rest table zero pass some h = absurd (omega (arith, some))
 first_rest table (suc n) pass some h = h
 
 -- ---- lists
-pub size_push : {A : Type 0} (xs : List A) (x : A) → length (xs ++ x ∷ []) ≡ length xs + 1
-size_push [] x = omega arith
-size_push (y ∷ ys) x = let e = size_push ys x in omega (arith, e)
-
 -- What holds of all holds of the last one.
 pub hold_last :
     {A : Type 0} (P : A → Type 0) (xs : List A) (x : A)

@@ -1,5 +1,5 @@
 -- Facts of each of a list by its number.
-use Rattle.std.proofs.Common.{◌≡◌, ◌≢◌, ℕ, zero, suc, ◌+◌, ◌<◌, ◌≤◌, List, [], ◌∷◌, ◌++◌, length, map, get_or, set, cond, eqb, refl, sym, subst, arith}
+use Rattle.std.proofs.Common.{◌≡◌, ◌≢◌, ℕ, zero, suc, ◌+◌, ◌<◌, ◌≤◌, List, [], ◌∷◌, ◌++◌, length, get_or, set, cond, eqb, refl, sym, subst, arith}
 use Rattle.std.proofs.lemmas.Bool.{eq-eqb}
 use Rattle.std.specs.List.{AllByRecursion}
 use Rattle.trace_runner.specs.Workers.{AllNumbered}
@@ -63,13 +63,6 @@ pub all_plain :
     → AllByRecursion Q xs
 all_plain P Q n [] f h = tt
 all_plain P Q n (x ∷ xs) f h = (f n x h.0, all_plain P Q (suc n) xs f h.1)
-
-pub all_mapped :
-    {A B : Type 0} (P : ℕ → B → Type 0) (f : A → B) (n : ℕ) (xs : List A)
-    → AllNumbered (λ k x. P k (f x)) n xs
-    → AllNumbered P n (map f xs)
-all_mapped P f n [] h = tt
-all_mapped P f n (x ∷ xs) h = (h.0, all_mapped P f (suc n) xs h.1)
 
 pub all_of :
     {A : Type 0} (P : ℕ → Type 0) (n : ℕ) (xs : List A)

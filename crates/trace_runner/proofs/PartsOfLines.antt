@@ -1,5 +1,5 @@
 -- The lines of a trace from one index up to another.
-use Rattle.std.proofs.Common.{◌≡◌, ℕ, zero, suc, ◌+◌, ◌-◌, ◌<◌, ◌≤◌, List, [], ◌∷◌, ◌++◌, length, take, drop, get_or, false, ap, ◌∙◌, refl, arith}
+use Rattle.std.proofs.Common.{◌≡◌, ℕ, zero, suc, ◌+◌, ◌-◌, ◌<◌, ◌≤◌, List, [], ◌∷◌, ◌++◌, length, take, drop, get_or, false, ap, ◌∙◌, refl, arith, drop-drop, take-append-drop, sym}
 use Rattle.std.specs.List.{AllByRecursion}
 use Rattle.std.proofs.lemmas.List.{drop_more, take_more}
 use Rattle.trace_line.specs.declared.line.TraceLine.{TraceLine}
@@ -10,19 +10,6 @@ use Rattle.run_model.specs.Quiet.{NoneQuiet}
 abbrev pub part : ℕ → ℕ → List TraceLine → List TraceLine
 part start end lines = take (end - start) (drop start lines)
 
-pub skip : (xs : List TraceLine) (n : ℕ) → xs ≡ take n xs ++ drop n xs
-skip [] zero = refl
-skip [] (suc n) = refl
-skip (x ∷ xs) zero = refl
-skip (x ∷ xs) (suc n) = ap (λ l. x ∷ l) (skip xs n)
-
-drop_twice : (xs : List TraceLine) (m n : ℕ) → drop n (drop m xs) ≡ drop (m + n) xs
-drop_twice xs zero n = let e : n ≡ 0 + n = omega arith in ap (λ k. drop k xs) e
-drop_twice [] (suc m) zero = let e : suc m + zero ≡ suc m = omega arith in rw e refl
-drop_twice [] (suc m) (suc n) = let e : suc m + suc n ≡ suc (m + suc n) = omega arith in rw e refl
-drop_twice (x ∷ xs) (suc m) n = let e :
-    suc (m + n) ≡ suc m + n = omega arith in drop_twice xs m n ∙ ap (λ k. drop k (x ∷ xs)) e
-
 pub rest_is :
     (lines : List TraceLine) (start i : ℕ) (d : TraceLine)
     → start ≤ i
@@ -30,9 +17,9 @@ pub rest_is :
     → drop start lines ≡ part start i lines ++ get_or lines i d ∷ drop (i + 1) lines
 rest_is lines start i d low within =
     let e : start + (i - start) ≡ i = omega arith in
-    skip (drop start lines) (i - start)
+    sym (take-append-drop (i - start) (drop start lines))
     ∙ ap (λ l. take (i - start) (drop start lines) ++ l)
-    (drop_twice lines start (i - start) ∙ ap (λ k. drop k lines) e ∙ drop_more lines i d within)
+    (drop-drop (i - start) start lines ∙ ap (λ k. drop k lines) e ∙ drop_more lines i d within)
 
 pub front_is :
     (lines : List TraceLine) (start i : ℕ) (d : TraceLine)

@@ -295,8 +295,11 @@ none_apart set opening processors = record {
   work = λ cpu. refl;
   closed = record {
     size = refl;
-    in_table = listed_inside (length opening) (length processors) 0 [] (λ k low. tt);
-    legal = λ entry low. section_legal (section_on set opening processors []) opening tt refl entry;
+    legal = record {
+      in_table = listed_inside (length opening) (length processors) 0 [] (λ k low. tt);
+      legal =
+          λ entry low. section_legal (section_on set opening processors []) opening tt refl entry;
+    };
     gone = λ cpu line gone. gone_at opening line gone;
   };
   quiet = tt;

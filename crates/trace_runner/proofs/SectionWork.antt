@@ -134,29 +134,31 @@ module _ {L : Type 0} (keeps : Keeping L) (set : StoreContext) (opening : List S
     work = work;
     closed = record {
       size = closes.size ∙ ap length is;
-      in_table =
-          subst
-          (λ n.
-          AllByRecursion (λ (r : Receipt). r.entry < length opening)
-          (receipts_from_processor n 0 ts)) count
-          (listed_inside (length opening) (length ws) 0 ts
-          (λ k low.
-          let e : k ≡ 0 + k = omega arith in
-          subst
-          (λ n.
-          AllByRecursion (λ (r : Receipt). r.entry < length opening)
-          (receipts_by (lines_of_processor n ts))) e
-          (works_inside set (length opening) (opening_fronts a) (fronts k)
-          (processor_at processors k) (lines_of_processor k ts) sizes
-          (here k low))));
-      legal =
-          λ entry low.
-          rw (sym made)
-          (subst
-          (λ l.
-          IsLegal (state_at l entry) (history entry (view_of all).actor.receipts)
-          (state_at b entry)) is
-          (closes.legal entry (subst (λ l. entry < length l) (sym is) low)));
+      legal = record {
+        in_table =
+            subst
+            (λ n.
+            AllByRecursion (λ (r : Receipt). r.entry < length opening)
+            (receipts_from_processor n 0 ts)) count
+            (listed_inside (length opening) (length ws) 0 ts
+            (λ k low.
+            let e : k ≡ 0 + k = omega arith in
+            subst
+            (λ n.
+            AllByRecursion (λ (r : Receipt). r.entry < length opening)
+            (receipts_by (lines_of_processor n ts))) e
+            (works_inside set (length opening) (opening_fronts a) (fronts k)
+            (processor_at processors k) (lines_of_processor k ts) sizes
+            (here k low))));
+        legal =
+            λ entry low.
+            rw (sym made)
+            (subst
+            (λ l.
+            IsLegal (state_at l entry) (history entry (view_of all).actor.receipts)
+            (state_at b entry)) is
+            (closes.legal entry (subst (λ l. entry < length l) (sym is) low)));
+      };
       gone =
           λ cpu line gone.
           at line (inside_of cpu line gone)

@@ -1,7 +1,8 @@
 -- The sections of a parallel run, one after the other.
 use Rattle.std.specs.Prelude.{Option, Some, None, IfSome, map}
-use Rattle.std.proofs.Common.{◌≡◌, ℕ, zero, suc, ◌+◌, ◌<◌, ◌≤◌, List, [], ◌∷◌, ◌++◌, length, take, drop, get_or, true, false, ap, sym, ◌∙◌, refl, subst, arith, append_assoc, append-nil}
+use Rattle.std.proofs.Common.{◌≡◌, ℕ, zero, suc, ◌+◌, ◌<◌, ◌≤◌, List, [], ◌∷◌, ◌++◌, length, take, drop, get_or, true, false, ap, sym, ◌∙◌, refl, subst, arith, append_assoc, append-nil, take-append-drop}
 use Rattle.std.specs.List.{AllByRecursion}
+use Rattle.run_model.proofs.LineReceipts.{lines_append}
 use Rattle.bus_window.specs.Windows.{BusWindow}
 use Rattle.trace_line.specs.declared.line.TraceLine.{TraceLine}
 use Rattle.trace_line.specs.Lines.{is_quiet}
@@ -24,10 +25,10 @@ use Rattle.run_model.specs.StoreNumbers.{store_at, AreNamed}
 use Rattle.trace_runner.specs.StoreRuns.{SectionLeaves}
 use Rattle.trace_runner.specs.Sectioned.{Sectioned, HasGrown, RunsSection, HasRunFrom, Runs}
 use Rattle.trace_runner.specs.Workers.{Keeping, replied_line}
-use Rattle.trace_runner.proofs.PartsOfLines.{part, skip, rest_is, front_is, part_end}
+use Rattle.trace_runner.proofs.PartsOfLines.{part, rest_is, front_is, part_end}
 use Rattle.run_model.proofs.StoreSerial.{quiet_is}
 use Rattle.run_model.proofs.StoreNumbers.{same_count, stores_count}
-use Rattle.trace_runner.proofs.WorkSteps.{replied_lines_more, kinds_more}
+use Rattle.trace_runner.proofs.WorkSteps.{kinds_more}
 
 -- ---- where the quiet lines cut
 abbrev NoneQuietIn : List RepliedLine → Type 0
@@ -97,7 +98,6 @@ store_goes ws ts t c x y z h q rest =
         closed =
             record {
               size = k.closed.size;
-              in_table = k.closed.in_table;
               legal = k.closed.legal;
               gone = k.closed.gone;
             };
@@ -262,7 +262,7 @@ module _ (s later : AllStores) (ls : List TraceLine) (news : List Reply) (named 
       → Runs after (lines_with_replies rest more)
       → Runs s (lines_with_replies (ls ++ l ∷ rest) (news ++ r ∷ more))
   section_runs after l r rest more q ran k =
-      subst (Runs s) (sym (replied_lines_more ls (l ∷ rest) news (r ∷ more) h.kinds))
+      subst (Runs s) (sym (lines_append ls (l ∷ rest) news (r ∷ more) h.kinds))
       (subst
       (λ (c : List RepliedLine × List QuietPart).
       AllByRecursion (λ (x : Store). RunsParallel (is_on ws x.window) x c.0 c.1)
@@ -350,7 +350,7 @@ pub done_all :
 done_all s later last lines start rs news h m sect = record {
   kinds =
       λ named.
-      subst (λ ls. AreReplies ls (rs ++ news)) (sym (skip lines start))
+      subst (λ ls. AreReplies ls (rs ++ news)) (take-append-drop start lines)
       (kinds_more (take start lines) (drop start lines) rs news (h.kinds named) sect.kinds);
   runs =
       λ named.
@@ -396,7 +396,7 @@ run_ended has s later last lines start i rs old new low end h m put x =
       replies = rs ++ x.news;
       put =
           subst (λ ls. has new ls (rs ++ x.news))
-          (ap (λ ls. take start lines ++ ls) e ∙ sym (skip lines start))
+          (ap (λ ls. take start lines ++ ls) e ∙ take-append-drop start lines)
           (x.grown (take start lines) rs put);
       kinds = ended.kinds;
       runs = ended.runs;

@@ -21,7 +21,7 @@ use Rattle.trace_runner.specs.Sectioned.{Sectioned, AddsReplies, RunsSection}
 use Rattle.trace_runner.specs.Workers.{Keeping, AllNumbered}
 use Rattle.trace_runner.proofs.Numbered.{all_push, all_weaker, all_inside, all_has}
 use Rattle.trace_runner.proofs.SectionPromises.{store_idle}
-use Rattle.run_model.proofs.StoreNumbers.{not_eqb, same_count, window_at, table_changed, window_changed, window_others, replied_numbered, lines_alone}
+use Rattle.run_model.proofs.StoreNumbers.{not_eqb, same_count, window_at, table_changed, window_changed, window_others, replied_numbered, lines_alone, stays_so, stays_through}
 use Rattle.trace_runner.proofs.WindowIndices.{windows_stay}
 
 -- One that is taken out and put back is set.
@@ -45,7 +45,6 @@ apart_on s ts b h = record {
   closed =
       record {
         size = h.closed.size;
-        in_table = h.closed.in_table;
         legal = h.closed.legal;
         gone = h.closed.gone;
       };
@@ -88,7 +87,7 @@ none_ran keeps s number =
       ran =
           runs_on keeps (windows_in s.windows) x x [] (states_of x) x.processors [] r refl;
       others = λ other differ inside. refl;
-      stays = record { windows = refl; processors = refl; number = refl };
+      stays = stays_so s;
     }
 
 -- When the lines on the page table have run, the first store is done.
@@ -188,7 +187,7 @@ below_none {L = L} {Z = Z} keeps s lines logs none =
       size = refl;
       ran = tt;
       others = λ number low inside. refl;
-      stays = record { windows = refl; processors = refl; number = refl };
+      stays = stays_so s;
     })
 
 pub below_more :
@@ -209,12 +208,7 @@ below_more {L = L} {Z = Z} keeps s mid later k lines own_lines logs own inside a
       λ number low within.
       next number (λ e. absurd (omega (arith, low, e))) within
       ∙ h.others number (omega (arith, low)) within;
-  stays =
-      record {
-        windows = r.stays.windows ∙ h.stays.windows;
-        processors = r.stays.processors ∙ h.stays.processors;
-        number = r.stays.number ∙ h.stays.number;
-      };
+  stays = stays_through s mid later h.stays r.stays;
 } where
   ws : List BusWindow
   ws = windows_in s.windows

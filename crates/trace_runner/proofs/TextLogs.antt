@@ -3,6 +3,7 @@ use Rattle.std.proofs.Common.{◌≡◌, ℕ, ◌+◌, ◌-◌, ◌/◌, ◌<◌
 use Rattle.std.specs.Str.{IsUtf8, IsCharBoundary}
 use Rattle.std.proofs.lemmas.Str.{IsCharBoundary-from_take}
 use Rattle.std.proofs.lemmas.List.{length-append}
+use Rattle.std.proofs.Math.Seq.{take-append_seam, drop-append_seam}
 use Rattle.trace_line.specs.declared.line.TraceLine.{TraceLine}
 use Rattle.trace_line.specs.declared.act.Act.{Act}
 use Rattle.trace_line.specs.declared.act.Act.TheVariants as acts
@@ -73,14 +74,6 @@ behind front bytes [] (l ∷ ls) rs h = absurd h
 behind front bytes (end ∷ ends) [] rs h = absurd h
 behind front bytes (end ∷ ends) (l ∷ ls) [] h = absurd h
 
-take_front : (xs ys : List ℕ) → take (length xs) (xs ++ ys) ≡ xs
-take_front [] ys = refl
-take_front (x ∷ xs) ys = ap (λ zs. x ∷ zs) (take_front xs ys)
-
-drop_front : (xs ys : List ℕ) → drop (length xs) (xs ++ ys) ≡ ys
-drop_front [] ys = refl
-drop_front (x ∷ xs) ys = drop_front xs ys
-
 -- Where the first of some replies stands, and what is kept behind it.
 pub record FirstText (bytes others : List ℕ) (start end : ℕ) (l : TraceLine) (r : Reply)
     (ls : List TraceLine) (rs : List Reply) :
@@ -110,11 +103,11 @@ first_text bytes others start end l r ls rs utf8 h =
     let high : end ≤ length bytes = omega (arith, h.texts.0, all) in
     let span : end - start ≡ length text = omega (arith, at) in
     let tail : drop start bytes ≡ text ++ more.0 = ap (λ n. drop n bytes) h.begins ∙ ap
-    (drop (length h.front)) whole ∙ drop_front h.front (text ++ more.0) in
+    (drop (length h.front)) whole ∙ drop-append_seam h.front (text ++ more.0) in
     let up_to : take start bytes ≡ h.front = ap (λ n. take n bytes) h.begins ∙ ap
-    (take (length h.front)) whole ∙ take_front h.front (text ++ more.0) in
+    (take (length h.front)) whole ∙ take-append_seam h.front (text ++ more.0) in
     let up_to_next : take end bytes ≡ next = ap (λ n. take n bytes) h.texts.0 ∙ ap
-    (take (length next)) more.1 ∙ take_front next more.0 in
+    (take (length next)) more.1 ∙ take-append_seam next more.0 in
     record {
       low = omega (arith, at);
       high = high;
@@ -125,7 +118,7 @@ first_text bytes others start end l r ls rs utf8 h =
       text =
           ap (λ n. take n (drop start bytes)) span
           ∙ ap (take (length text)) tail
-          ∙ take_front text more.0;
+          ∙ take-append_seam text more.0;
       rest = record { front = next; begins = h.texts.0; cut = h.texts.1.0; texts = h.texts.1.1 };
     }
 

@@ -7,6 +7,7 @@ use Rattle.hpte_fields.specs.TableSize.{entry_count}
 use Rattle.entry_model.specs.CachedLines.{AllLater}
 use Rattle.run_model.specs.LineReplies.{IsCallReply, IsReplyToAccess}
 use Rattle.std.proofs.lemmas.List.Elements.{filter_more}
+use Rattle.run_model.proofs.LineReceipts.{lines_append}
 use Rattle.entry_model.specs.declared.receipt.Receipt.{Receipt}
 use Rattle.tlb_model.specs.Cache.{AllCached}
 use Rattle.entry_model.specs.Fronts.{opening_fronts, KeepsFronts, IsGone}
@@ -28,17 +29,6 @@ use Rattle.trace_runner.specs.declared.worker.Worker.{Worker}
 use Rattle.trace_runner.specs.Workers.{Keeping, replied_line, lines_of_cpu, replied_lines_of_cpu, IsSeenBy, HasRun, HasStart, IsReady}
 
 -- ---- lists of replied_lines
-pub replied_lines_more :
-    (ls ms : List TraceLine) (rs ss : List Reply)
-    → AreReplies ls rs
-    → lines_with_replies (ls ++ ms) (rs ++ ss)
-    ≡ lines_with_replies ls rs ++ lines_with_replies ms ss
-replied_lines_more [] ms [] ss h = refl
-replied_lines_more [] ms (r ∷ rs) ss h = absurd h
-replied_lines_more (l ∷ ls) ms [] ss h = absurd h
-replied_lines_more (l ∷ ls) ms (r ∷ rs) ss h =
-    ap (λ ts. replied_line l r ∷ ts) (replied_lines_more ls ms rs ss h.1)
-
 pub kinds_more :
     (ls ms : List TraceLine) (rs ss : List Reply)
     → AreReplies ls rs
@@ -194,7 +184,7 @@ own_run set table cpu lines k d rs ss w v pass behind r within own h before repl
     let old = replied_lines_of_cpu cpu (take k lines) rs in
     let e = own_more cpu lines k d within own in
     let grown : replied_lines_of_cpu cpu (take (k + 1) lines) ss ≡ old ++ replied_line l r ∷ [] =
-    (λ i. lines_with_replies (e i) (replies i)) ∙ replied_lines_more
+    (λ i. lines_with_replies (e i) (replies i)) ∙ lines_append
     (lines_of_cpu cpu (take k lines)) (l ∷ []) rs (r ∷ []) h.kinds in
     let processor : v.cpu ≡ processor_after_lines w.before.value (old ++ replied_line l r ∷ []) =
     ran.place ∙ ap (λ s. processor_after s l.act r) h.processor ∙ sym

@@ -14,7 +14,8 @@ use Rattle.run_model.specs.Sections.{Section, processors_after_lines, section_en
 use Rattle.run_model.specs.StoreContexts.{StoreContext}
 use Rattle.run_model.specs.StoreNumbers.{store_at, Stays, lines_on_store, replied_on_store}
 use Rattle.run_model.specs.Stores.{Store, plain_store, is_on, lines_on}
-use Rattle.run_model.specs.Quiet.{NoneQuiet, AreOnProcessors}
+use Rattle.trace_line.specs.Lines.{AreOnProcessors}
+use Rattle.run_model.specs.Quiet.{NoneQuiet}
 use Rattle.trace_runner.specs.Workers.{Keeping, AllNumbered, lines_of_cpu, replied_lines_of_cpu}
 
 -- ---- a store

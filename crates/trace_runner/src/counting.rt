@@ -1,13 +1,11 @@
 ghost use Rattle.std.specs.Prelude.{◌≡◌, ◌≤◌, ◌<◌, length, IfOk};
-ghost use Rattle.std.specs.List.{AllByRecursion};
-ghost use Rattle.trace_line.specs.declared.line.TraceLine.{TraceLine};
 ghost use Rattle.run_model.specs.QuietLines.{shown_of};
 ghost use Rattle.run_model.specs.SerialRun.{serial_replies, table_after};
 ghost use Rattle.trace_runner.specs.MachineState.{replies_of, table_end};
 ghost use Rattle.run_model.specs.GoodRun.{IsGoodRun};
 ghost use Rattle.run_model.specs.Assurances.{Assures};
 ghost use Rattle.reply_text.specs.Summary.{IsCountOf};
-ghost use Rattle.trace_line.specs.Lines.{most_lines};
+ghost use Rattle.trace_line.specs.Lines.{most_lines, AreOnProcessors};
 
 use crate::machine::Machine;
 use crate::opening::open_machine;
@@ -33,9 +31,7 @@ fn count_lines(
     lines: &[TraceLine],
 ) -> Result<CountedRun, AllocError>
     requires few { length lines.now ≤ most_lines }
-    requires cpus { AllByRecursion
-        (λ (l : TraceLine). l.cpu < length machine.old.table.processors)
-        lines.now }
+    requires cpus { AreOnProcessors (length machine.old.table.processors) lines.now }
     requires number { machine.old.table.memory.table.number ≡ 0 }
     ensures counts { IfOk
         result

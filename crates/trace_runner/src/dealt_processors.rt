@@ -1,9 +1,8 @@
 //! The lines of a section on a store, dealt to their processors.
 ghost use Rattle.std.specs.Prelude.{◌≡◌, ◌<◌, ◌≤◌, length, IfOk};
-ghost use Rattle.std.specs.List.{AllByRecursion};
-ghost use Rattle.trace_line.specs.declared.line.TraceLine.{TraceLine as LineOf};
 ghost use Rattle.trace_runner.specs.DealtLines.{AreDealt, AllEmpty, count_with_own};
 ghost use Rattle.trace_read.specs.Configuration.{most_processors};
+ghost use Rattle.trace_line.specs.Lines.{AreOnProcessors};
 
 use std::alloc::{AllocError, Global};
 use trace_line::TraceLine;
@@ -26,7 +25,7 @@ pub fn deal_lines(
     cpus: usize,
     lines: &[TraceLine],
 ) -> Result<Vec<Vec<usize>>, AllocError>
-    requires on_cpus { AllByRecursion (λ (l : LineOf). l.cpu < cpus) lines.now }
+    requires on_cpus { AreOnProcessors cpus lines.now }
     ensures size { IfOk result (λ dealt. length dealt.items ≡ cpus) }
     ensures dealt { IfOk result (λ dealt. AreDealt lines.now dealt.items) }
 {

@@ -1,11 +1,11 @@
 //! The workers of a section: those with lines share the table's passes.
 ghost use Rattle.std.specs.Prelude.{◌≡◌, ◌≢◌, ℕ, ◌+◌, ◌<◌, ◌≤◌, min, List, [], length, vec_len, vec_capacity, IfOk, IsSomeAnd};
-ghost use Rattle.std.specs.List.{AllByRecursion};
 ghost use Rattle.hpte_fields.specs.TableSize.{IsTableOrder, entry_count};
 ghost use Rattle.trace_line.specs.declared.line.TraceLine.{TraceLine as LineOf};
 ghost use Rattle.entry_model.specs.Fronts.{opening_fronts};
 ghost use Rattle.tlb_model.specs.Cache.{AllCached};
 ghost use Rattle.entry_lock.specs.PassOfTable.{IsOf, view_of};
+ghost use Rattle.trace_line.specs.Lines.{AreOnProcessors};
 ghost use Rattle.run_model.specs.StoreContexts.{StoreContext};
 ghost use Rattle.run_model.specs.HeldLines.{AllHold, Holding};
 ghost use Rattle.trace_runner.specs.DealtLines.{AreDealt, count_with_own};
@@ -91,9 +91,7 @@ pub fn open_section<L: RunLog>(
     requires whole { vec_len states ≡ entry_count order }
     requires some { lines.now ≢ [] }
     requires few { length cpus.old.items ≤ most_processors }
-    requires on_cpus { AllByRecursion
-        (λ (l : LineOf). l.cpu < length cpus.old.items)
-        lines.now }
+    requires on_cpus { AreOnProcessors (length cpus.old.items) lines.now }
     requires hold { AllHold states.items cpus.old.items }
     ensures opening { IfOk result (λ r. r.0.opening.items ≡ states.items) }
     ensures order { IfOk result (λ r. r.0.order ≡ order) }

@@ -1,13 +1,12 @@
 ghost use Rattle.std.specs.Prelude.{◌≡◌, ◌<◌, length, IfOk};
-ghost use Rattle.std.specs.List.{AllByRecursion};
-ghost use Rattle.trace_line.specs.declared.line.TraceLine.{TraceLine};
+ghost use Rattle.trace_line.specs.Lines.{AreOnProcessors};
 ghost use Rattle.run_model.specs.AllStores.{opening_all};
 ghost use Rattle.run_model.specs.SerialRun.{serial_replies, table_after};
 ghost use Rattle.trace_runner.specs.MachineState.{replies_of, table_end};
 ghost use Rattle.run_model.specs.GoodRun.{IsGoodRun};
 ghost use Rattle.run_model.specs.Assurances.{Assures};
 ghost use Rattle.run_model.specs.BusyCalls.{PutIsNotBusy};
-ghost use Rattle.trace_reply.specs.Replies.{RepliedLine, lines_with_replies};
+ghost use Rattle.run_model.specs.EachReplied.{EachReplied};
 
 use crate::machine::Machine;
 use std::alloc::{AllocError, Global};
@@ -26,16 +25,11 @@ pub fn open_machine(alloc: Global, trace: &Trace) -> Result<Machine, AllocError>
         table_end machine trace.now.lines ≡ table_after trace.now.config trace.now.lines) }
     ensures cpus { IfOk
         result
-        (λ machine.
-        AllByRecursion
-        (λ (l : TraceLine). l.cpu < length machine.table.processors)
-        trace.now.lines) }
+        (λ machine. AreOnProcessors (length machine.table.processors) trace.now.lines) }
     ensures number { IfOk result (λ machine. machine.table.memory.table.number ≡ 0) }
     ensures good { IsGoodRun trace.now (serial_replies trace.now) }
     ensures assured { Assures trace.now (serial_replies trace.now) }
-    ensures not_busy { AllByRecursion
-        (λ (x : RepliedLine). PutIsNotBusy x.line.act x.reply)
-        (lines_with_replies trace.now.lines (serial_replies trace.now)) }
+    ensures not_busy { EachReplied PutIsNotBusy trace.now (serial_replies trace.now) }
 {
     trace.keeps_limits();
     let machine = Machine::open(alloc, &trace.config)?;

@@ -1,8 +1,6 @@
 //! The parallel run: between two quiet lines, on each store a thread for each processor that has
 //! lines there.
 ghost use Rattle.std.specs.Prelude.{◌≡◌, ℕ, ◌<◌, ◌≤◌, ◌-◌, ◌^◌, length, IfOk, string_bytes};
-ghost use Rattle.std.specs.List.{AllByRecursion};
-ghost use Rattle.trace_line.specs.declared.line.TraceLine.{TraceLine as LineOf};
 ghost use Rattle.trace_reply.specs.Replies.{AreReplies};
 ghost use Rattle.run_model.specs.SerialRun.{serial_replies};
 ghost use Rattle.run_model.specs.GoodRun.{IsGoodRun};
@@ -11,7 +9,7 @@ ghost use Rattle.run_model.specs.Laws.{HasOneProcessor};
 ghost use Rattle.run_model.specs.Quiet.{NoneQuiet};
 ghost use Rattle.trace_runner.specs.Sectioned.{HasRunFrom, RunsSection, RunsToQuiet};
 ghost use Rattle.trace_runner.specs.ParallelRun.{IsOutputOfRun, IsTextOfRun};
-ghost use Rattle.trace_line.specs.Lines.{most_lines};
+ghost use Rattle.trace_line.specs.Lines.{most_lines, AreOnProcessors};
 ghost use Rattle.trace_read.specs.Configuration.{most_processors};
 
 use crate::gate::Gate;
@@ -40,9 +38,7 @@ fn section<R: Threads + Wait + Sync, G: Gate + Sync, L: RunLog>(
     output: &mut L::Output,
 ) -> Result<Machine, AllocError>
     requires none_quiet { NoneQuiet lines.now }
-    requires cpus { AllByRecursion
-        (λ (l : LineOf). l.cpu < length machine.table.processors)
-        lines.now }
+    requires cpus { AreOnProcessors (length machine.table.processors) lines.now }
     requires few { length machine.table.processors ≤ most_processors }
     ensures { IfOk result
         (λ later. RunsSection L.has machine lines.now output.old output.new later) }
@@ -63,9 +59,7 @@ fn section_to_quiet<R: Threads + Wait + Sync, G: Gate + Sync, L: RunLog>(
     output: &mut L::Output,
 ) -> Result<Machine, AllocError>
     requires none_quiet { NoneQuiet lines.now }
-    requires cpus { AllByRecursion
-        (λ (l : LineOf). l.cpu < length machine.table.processors)
-        lines.now }
+    requires cpus { AreOnProcessors (length machine.table.processors) lines.now }
     requires few { length machine.table.processors ≤ most_processors }
     requires cpu { quiet.now.cpu < length machine.table.processors }
     requires number { machine.table.memory.table.number < 2 ^ 32 - 1 }
@@ -88,9 +82,7 @@ fn run_sections<R: Threads + Wait + Sync, G: Gate + Sync, L: RunLog>(
     lines: &[TraceLine],
 ) -> Result<L::Output, AllocError>
     requires few { length lines.now ≤ most_lines }
-    requires cpus { AllByRecursion
-        (λ (l : LineOf). l.cpu < length opened.table.processors)
-        lines.now }
+    requires cpus { AreOnProcessors (length opened.table.processors) lines.now }
     requires few_cpus { length opened.table.processors ≤ most_processors }
     requires number { opened.table.memory.table.number ≡ 0 }
     ensures { IfOk result (HasRunFrom L.has opened lines.now) }

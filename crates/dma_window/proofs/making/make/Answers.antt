@@ -1,4 +1,4 @@
-use Rattle.std.proofs.Common.{◌-◌, ◌<◌, subst}
+use Rattle.std.proofs.Common.{◌<◌, subst}
 use Rattle.hpte_fields.specs.TableSize.{entry_count}
 use Rattle.dma_window.proofs.making.make.Goals as goal
 use Rattle.dma_window.proofs.TcePlanCalls.{in_least}

@@ -1,5 +1,5 @@
-use Rattle.entry_model.proofs.ReplyLaws.{only_raises}
+use Rattle.entry_model.proofs.OperationLaws.{access_further}
 use Rattle.entry_model.proofs.laws.accesses_only_raise_bits.Goals as goal
 
 pub returns : goal.returns
-returns c = only_raises
+returns c = access_further

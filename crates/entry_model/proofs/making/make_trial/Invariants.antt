@@ -10,11 +10,3 @@ invariant-loop-made g l = record {
   order : g.S.EntryStore.table_order l.store ≡ g.S.EntryStore.table_order l.fn.store;
   begun : IsBegunTrial (g.C.CallList.goes_on l.calls) (g.C.CallList.calls l.calls) l.receipts;
 }
-
-abbrev pub invariant-loop-made-2 : goal.invariant-loop-made-2
-invariant-loop-made-2 g l = record {
-  count : length l.receipts ≡ l.made;
-  made : g.S.EntryStore.made l.fn.store l.store l.receipts;
-  order : g.S.EntryStore.table_order l.store ≡ g.S.EntryStore.table_order l.fn.store;
-  begun : IsBegunTrial (g.C.CallList.goes_on l.calls) (g.C.CallList.calls l.calls) l.receipts;
-}

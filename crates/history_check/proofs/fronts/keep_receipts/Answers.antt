@@ -1,7 +1,7 @@
 use Rattle.std.proofs.Common.{subst}
+use Rattle.std.proofs.lemmas.List.{take_all}
 use Rattle.history_check.specs.FrontKeeping.{front_of, LeadsTo}
 use Rattle.history_check.proofs.FrontSteps.{all_made, none_kept}
-use Rattle.history_check.proofs.ListedStates.{to_end}
 use Rattle.history_check.proofs.fronts.keep_receipts.Goals as goal
 
 pub returns-then-not-branch-clause-no : goal.returns-then-not-branch-clause-no
@@ -20,5 +20,5 @@ returns-clause-yes c =
     (λ l.
     LeadsTo (front_of c.args.fronts.now c.args.opening.now) (all_made l)
     (front_of c.loop-receipt.fronts c.args.opening.now))
-    (to_end c.args.receipts.now c.loop-receipt.receipt-index c.loop-receipt-test.false)
+    (take_all c.loop-receipt.receipt-index c.args.receipts.now c.loop-receipt-test.false)
     c.loop-receipt.invariant

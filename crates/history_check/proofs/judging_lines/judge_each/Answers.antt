@@ -1,11 +1,12 @@
 use Rattle.std.proofs.Common.{◌≡◌, ◌<◌, ◌∙◌, List, [], ◌∷◌, false, ap, sym, refl, subst, length, get_or, ◌+◌, arith}
 use Rattle.std.proofs.lemmas.Grind.{common_steps}
+use Rattle.basics.proofs.Each.{each_within}
 use Rattle.trace_line.specs.declared.line.TraceLine.{TraceLine}
 use Rattle.trace_line.specs.Lines.{is_quiet, past_lines}
 use Rattle.entry_model.specs.State.{State}
 use Rattle.history_check.specs.FrontKeeping.{fronts_of}
 use Rattle.history_check.proofs.SectionSteps.{all_left}
-use Rattle.history_check.proofs.SectionLoop.{Left, line_at, text_first, text_on, step_left, none_left, few_left, end_left, over_left}
+use Rattle.history_check.proofs.SectionLoop.{Left, text_first, text_on, step_left, none_left, few_left, end_left, over_left}
 use Rattle.history_check.proofs.judging_lines.judge_each.Goals as goal
 
 pub loop-i-init : goal.loop-i-init
@@ -22,15 +23,15 @@ loop-i-init c = record {
 
 pub judge_next-requires-clause-plain : goal.judge_next-requires-clause-plain
 judge_next-requires-clause-plain c =
-    line_at (λ (l : TraceLine). is_quiet l.act ≡ false) c.args.lines.now c.loop-i.i _
-    c.loop-i-test.true c.requires.plain
+    each_within (λ (l : TraceLine). is_quiet l.act ≡ false) c.args.lines.now c.loop-i.i _
+    c.requires.plain c.loop-i-test.true
 
 pub judge_next-requires-clause-cpu : goal.judge_next-requires-clause-cpu
 judge_next-requires-clause-cpu c =
     subst (λ n. (get_or c.args.lines.now c.loop-i.i past_lines).cpu < n)
     (sym c.loop-i.invariant.processors)
-    (line_at (λ (l : TraceLine). l.cpu < length c.args.processors.now.items) c.args.lines.now
-    c.loop-i.i past_lines c.loop-i-test.true c.requires.cpus)
+    (each_within (λ (l : TraceLine). l.cpu < length c.args.processors.now.items) c.args.lines.now
+    c.loop-i.i past_lines c.requires.cpus c.loop-i-test.true)
 
 pub returns-then-count-states-clause-told : goal.returns-then-count-states-clause-told
 returns-then-count-states-clause-told c =
@@ -54,10 +55,10 @@ loop-i-preserved c =
     let l = get_or c.args.lines.now c.loop-i.i past_lines in
     let cpu : l.cpu < length c.loop-i.processors.items = subst (λ n. l.cpu < n)
     (sym c.loop-i.invariant.processors)
-    (line_at (λ (l : TraceLine). l.cpu < length c.args.processors.now.items) c.args.lines.now
-    c.loop-i.i past_lines c.loop-i-test.true c.requires.cpus) in
-    let plain : is_quiet l.act ≡ false = line_at (λ (l : TraceLine). is_quiet l.act ≡ false)
-    c.args.lines.now c.loop-i.i past_lines c.loop-i-test.true c.requires.plain in
+    (each_within (λ (l : TraceLine). l.cpu < length c.args.processors.now.items) c.args.lines.now
+    c.loop-i.i past_lines c.requires.cpus c.loop-i-test.true) in
+    let plain : is_quiet l.act ≡ false = each_within (λ (l : TraceLine). is_quiet l.act ≡ false)
+    c.args.lines.now c.loop-i.i past_lines c.requires.plain c.loop-i-test.true in
     let told = rw c.in-Some.is at c.in_ok-told.ensures.told in
     let left = step_left _ _ _ _ _ _ _ _ _ _ _ _ _ c.loop-i.invariant.left l past_lines
     (get_or c.args.counts.now c.loop-i.i 0) c.in-Some.bytes c.split_at.result.0.now

@@ -1,18 +1,18 @@
 use Rattle.std.proofs.Common.{◌∙◌, sym, length, arith}
-use Rattle.history_check.proofs.ListedStates.{past_end, to_end}
+use Rattle.std.proofs.lemmas.List.{drop_all, take_all}
 use Rattle.history_check.proofs.PartedTexts.{first_none, cut_here}
 use Rattle.history_check.proofs.parting.cut_reply.Goals as goal
 
 pub returns-in-None-clause-first : goal.returns-in-None-clause-first
 returns-in-None-clause-first c =
     c.split_at.ensures.front
-    ∙ to_end c.args.text.now (length c.args.text.now) (omega arith)
+    ∙ take_all (length c.args.text.now) c.args.text.now (omega arith)
     ∙ sym (first_none c.args.text.now c.in-None.ensures.none).0
 
 pub returns-in-None-clause-behind : goal.returns-in-None-clause-behind
 returns-in-None-clause-behind c =
     c.split_at.ensures.back
-    ∙ past_end c.args.text.now (length c.args.text.now) (omega arith)
+    ∙ drop_all (length c.args.text.now) c.args.text.now (omega arith)
     ∙ sym (first_none c.args.text.now c.in-None.ensures.none).1
 
 pub returns-in-Some-clause-first : goal.returns-in-Some-clause-first

@@ -1,7 +1,7 @@
 use Rattle.std.proofs.Common.{◌∙◌, ◌++◌, [], ◌∷◌, ap, subst}
+use Rattle.std.proofs.lemmas.List.{take_all}
 use Rattle.entry_model.specs.Fronts.{opening_fronts}
 use Rattle.history_check.proofs.Short.{LowStates}
-use Rattle.history_check.proofs.ListedStates.{to_end}
 use Rattle.history_check.proofs.SectionTold.{pairs_more, low_more}
 use Rattle.history_check.proofs.section.pairs_of.Goals as goal
 
@@ -21,9 +21,10 @@ loop-state-preserved c = record {
 pub returns-clause-pairs : goal.returns-clause-pairs
 returns-clause-pairs c =
     c.loop-state.invariant.pairs
-    ∙ ap opening_fronts (to_end c.args.states.now c.loop-state.state-index c.loop-state-test.false)
+    ∙ ap opening_fronts
+    (take_all c.loop-state.state-index c.args.states.now c.loop-state-test.false)
 
 pub returns-clause-low : goal.returns-clause-low
 returns-clause-low c =
-    subst LowStates (to_end c.args.states.now c.loop-state.state-index c.loop-state-test.false)
+    subst LowStates (take_all c.loop-state.state-index c.args.states.now c.loop-state-test.false)
     c.loop-state.invariant.low

@@ -1,9 +1,9 @@
-use Rattle.std.proofs.Common.{◌≡◌, ℕ, ◌+◌, ◌-◌, ◌<◌, length, map, get_or, set, Bool, true, false, List, Option, Some, None, sym, ap, ◌∙◌, subst, arith}
-use Rattle.std.proofs.lemmas.List.{length-map}
+use Rattle.std.proofs.Common.{◌≡◌, ℕ, ◌+◌, ◌<◌, length, map, get_or, set, Bool, true, false, List, Option, Some, None, sym, ap, ◌∙◌, subst, arith}
+use Rattle.std.proofs.lemmas.List.{length-map, map-set}
 use Rattle.entry_model.specs.State.{State}
 use Rattle.entry_model.specs.Run.{state_at}
 use Rattle.hpt_resize.specs.Rehash.{IsPlacedBelow, target_of, target_at, at_stamp_0}
-use Rattle.hpt_resize.proofs.Holders.{held_at, held_set, AreHolders, holders_start, holders_more, holders_all}
+use Rattle.hpt_resize.proofs.Holders.{held_at, AreHolders, holders_start, holders_more, holders_all}
 use Rattle.hpt_resize.proofs.Placed.{placed_none, placed_skip, placed_more, taken_target, collision_is, no_collision, all_placed, never_collides, carried_valid}
 use Rattle.hpt_resize.proofs.carry.rehash_into.Goals as goal
 use Rattle.hpt_resize.proofs.carry.rehash_into.Goals.{in-Some+else-state, in_default}
@@ -164,7 +164,7 @@ loop-index-preserved g c =
           let held_after : map held c.match-target_index.into
           ≡ set (map held into) target (at_stamp_0 (state_at states c.loop-index.index)) =
           ap (map held) after
-          ∙ held_set held into target
+          ∙ map-set held into target
           (holding w.index-into-target-in-Some.result w.fresh.result)
           ∙ ap (set (map held into) target)
           (g.met.H.StateHolder.given w.index-into-target-in-Some.result w.fresh.result ∙ new) in

@@ -1,13 +1,14 @@
 use Rattle.std.proofs.Common.{◌≡◌, ◌+◌, ◌<◌, ◌++◌, [], ◌∷◌, List, length, get_or, drop, Contains, sym, ap, ◌∙◌, subst, arith}
 use Rattle.std.proofs.lemmas.List.{length-append}
 use Rattle.std.proofs.lemmas.Grind.{common_steps}
+use Rattle.std.proofs.lemmas.List.Elements.{Contains-get_or}
 use Rattle.trace_line.specs.declared.line.TraceLine.{TraceLine}
 use Rattle.trace_reply.specs.declared.reply.Reply.{Reply}
 use Rattle.lpar_set.specs.declared.turn.Turn.{Turn}
 use Rattle.lpar_set.specs.SetTrace.{line_of}
 use Rattle.lpar_set.specs.SetRun.{SetState, member_at, set_line, replies_from}
 use Rattle.lpar_set.proofs.SetSteps.{in_set}
-use Rattle.lpar_set.proofs.SetRuns.{IsReady, opening_ready, turn_here, may_run, turn_ready, replies_go_on}
+use Rattle.lpar_set.proofs.SetRuns.{IsReady, opening_ready, may_run, turn_ready, replies_go_on}
 use Rattle.lpar_set.proofs.run.run_turns.Goals as goal
 
 pub loop-turn-init : goal.loop-turn-init
@@ -29,7 +30,7 @@ line-requires-clause-cpu c =
     let t = get_or c.turns-turns.result.now c.loop-turn.turn-index
     (record { partition = 0; line = 0 }) in
     let here = subst (λ (ts : List Turn). Contains ts t) c.turns-turns.ensures
-    (turn_here c.turns-turns.result.now c.loop-turn.turn-index
+    (Contains-get_or c.turns-turns.result.now c.loop-turn.turn-index
     (record { partition = 0; line = 0 }) c.loop-turn-test.true) in
     let may = may_run s w c.loop-turn.turn-index t c.keeps_limits.ensures
     c.loop-turn.invariant.ready here in
@@ -44,7 +45,7 @@ loop-turn-preserved c =
     let i = c.loop-turn.turn-index in
     let t = get_or turns i (record { partition = 0; line = 0 }) in
     let here = subst (λ (ts : List Turn). Contains ts t) c.turns-turns.ensures
-    (turn_here turns i (record { partition = 0; line = 0 }) c.loop-turn-test.true) in
+    (Contains-get_or turns i (record { partition = 0; line = 0 }) c.loop-turn-test.true) in
     let may = may_run s w i t c.keeps_limits.ensures c.loop-turn.invariant.ready here in
     let moved : in_set c.into_reply.result c.line.new.self ≡ set_line w t.partition (line_of s t) =
     ap (λ (r : Reply). in_set r c.line.new.self) c.into_reply.ensures

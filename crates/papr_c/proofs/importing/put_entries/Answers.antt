@@ -1,13 +1,14 @@
 use Rattle.std.proofs.Common.{◌≡◌, ◌+◌, ◌<◌, ◌∙◌, refl, ap, sym, subst, arith, set, get_or, drop, length, [], ◌∷◌, ◌++◌, ℕ}
 use Rattle.std.specs.Result.{result_unwrap_or}
 use Rattle.std.proofs.lemmas.List.FromFn.{length-map-range_with_len}
+use Rattle.std.proofs.lemmas.Grind.{drop_more_same}
 use Rattle.entry_model.specs.State.{State, empty_state}
 use Rattle.c_layout.specs.Grants.{listed}
 use Rattle.papr_c.specs.Transfers.{entry_of_bytes, entries_of_bytes, replaced}
 use Rattle.papr_c.proofs.Transfers.{entered_at, entries-more, set_replaced}
 use Rattle.c_layout.specs.Entries.{Entry, states_of, entry_with, AreMarked}
 use Rattle.c_layout.proofs.Marks.{states-length, states-set, marked_none}
-use Rattle.papr_c.proofs.LentEntries.{marked-length, marked_set, drop_set, same_rest, same_rest_on, replaced_none}
+use Rattle.papr_c.proofs.LentEntries.{marked-length, marked_set, drop_set, same_rest, replaced_none}
 use Rattle.papr_c.proofs.importing.put_entries.Goals as goal
 
 pub unwrap-state-requires : goal.unwrap-state-requires
@@ -54,7 +55,7 @@ loop-i-preserved c =
     let step : c.args.first + (c.loop-i.i + 1) ≡ at + 1 = omega arith in
     let rest_after : drop (at + 1) (set es at c.hold.new.self) ≡ drop (at + 1) old =
     drop_set es at c.hold.new.self
-    ∙ same_rest_on old es at below_old below_new c.loop-i.invariant.rest in
+    ∙ drop_more_same es old at c.loop-i.invariant.rest in
     record {
       states =
           states-set es at c.hold.new.self

@@ -1,13 +1,14 @@
 use Rattle.std.proofs.Common.{◌+◌, ◌∙◌, ap, arith}
 use Rattle.frame_grants.specs.Grants.{GrantedMemory, machine_range}
-use Rattle.papr_uses.proofs.Granted.{accepted, byte_of}
+use Rattle.frame_grants.proofs.Accepting.{accepted, is_placed}
+use Rattle.papr_uses.proofs.Granted.{byte_of}
 use Rattle.papr_uses.proofs.granting.grant_and_ask.Goals as goal
 
 pub overflow_add-grant : goal.overflow_add-grant
 overflow_add-grant c =
-    let fits = (accepted _ _ c.in_ok-add.ensures.told).fits in
+    let placed = is_placed _ _ (accepted _ _ c.in_ok-add.ensures.told) in
     let within = c.requires in
-    omega arith
+    omega (arith, placed.logical_end)
 
 pub returns-clause-at : goal.returns-clause-at
 returns-clause-at c =

@@ -1,6 +1,6 @@
 use Rattle.std.proofs.Common.{◌≡◌, ◌+◌, ◌∙◌, [], ap, sym, subst, length}
+use Rattle.std.proofs.lemmas.List.{length_push}
 use Rattle.trace_runner.specs.DealtLines.{AllEmpty}
-use Rattle.trace_runner.proofs.NewWorkers.{size_push}
 use Rattle.trace_runner.proofs.Numbered.{all_push}
 use Rattle.trace_runner.proofs.dealt_processors.empty_lists.Goals as goal
 
@@ -14,7 +14,7 @@ pub loop-preserved : goal.loop-preserved
 loop-preserved g c = record {
   size =
       ap length c.in_ok-push.ensures.items
-      ∙ size_push c.loop.lists.items c.new.result
+      ∙ length_push c.loop.lists.items c.new.result
       ∙ ap (λ n. n + 1) c.loop.invariant.size;
   empty =
       subst AllEmpty (sym c.in_ok-push.ensures.items)

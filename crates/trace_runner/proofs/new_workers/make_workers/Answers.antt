@@ -1,11 +1,11 @@
 use Rattle.std.proofs.Common.{◌≡◌, ◌+◌, ◌∙◌, ◌++◌, sym, ap, refl, subst, suc, arith, length, [], ◌∷◌, Some, reverse, append-nil, append_assoc}
-use Rattle.std.proofs.lemmas.List.{reverse-append, length-reverse}
+use Rattle.std.proofs.lemmas.List.{reverse-append, length-reverse, length_push}
 use Rattle.run_model.specs.HeldLines.{AllHold}
 use Rattle.trace_runner.specs.Workers.{processors_before, AreOwn, IsReady, IsRest, AllNumbered}
 use Rattle.trace_runner.specs.DealtLines.{count_with_own}
 use Rattle.trace_runner.proofs.JoinedWorkers.{popped_last, popped_count}
 use Rattle.trace_runner.proofs.Numbered.{all_front, all_back}
-use Rattle.trace_runner.proofs.NewWorkers.{first_rest, size_push, nil_of, hold_last, count_last}
+use Rattle.trace_runner.proofs.NewWorkers.{first_rest, nil_of, hold_last, count_last}
 use Rattle.trace_runner.proofs.new_workers.make_workers.Goals as goal
 
 pub loop-init : goal.loop-init
@@ -95,7 +95,7 @@ loop-preserved g c =
       room = c.pop.ensures.capacity ∙ i.room;
       size =
           ap length c.in_ok-push.ensures.items
-          ∙ size_push c.loop.workers.items w
+          ∙ length_push c.loop.workers.items w
           ∙ ap (λ n. n + 1) i.size;
       before = ap (λ l. c.pop.new.self.items ++ processors_before l) made
           ∙ ap (λ y. c.pop.new.self.items ++ y ∷ processors_before (reverse c.loop.workers.items))

@@ -1,13 +1,13 @@
 use Rattle.std.specs.Prelude.{◌==◌, IfSome, IfNone, is_some, not}
 use Rattle.std.proofs.Common.{◌≡◌, ℕ, ◌+◌, ◌<◌, ◌≤◌, ◌∙◌, [], ◌∷◌, true, false, ap, sym, subst, refl, length, List, Option, Some, None, arith}
 use Rattle.std.proofs.lemmas.Grind.{common_steps}
-use Rattle.trace_line.specs.Lines.{is_quiet, most_lines}
+use Rattle.trace_line.specs.Lines.{is_quiet, most_lines, AreOnProcessors}
 use Rattle.trace_line.specs.declared.line.TraceLine.{TraceLine}
 use Rattle.run_model.specs.AllStores.{WindowState, AllStores, windows_in}
 use Rattle.run_model.specs.StoreNumbers.{store_of, lines_on_store}
 use Rattle.basics.proofs.Each.{each_filter, filter_length}
 use Rattle.run_model.proofs.StoreNumbers.{same_count}
-use Rattle.run_model.specs.Quiet.{NoneQuiet, AreOnProcessors}
+use Rattle.run_model.specs.Quiet.{NoneQuiet}
 use Rattle.history_check.specs.FoundStores.{windows_of, AreFound}
 use Rattle.history_check.specs.PartedText.{part_on_store}
 use Rattle.history_check.specs.StoreParts.{FoundBelow}

@@ -3,9 +3,8 @@ use mathlib.Core.Path.{refl, sym, subst}
 use mathlib.Core.List.{List, [], ◌∷◌, ◌++◌}
 use seplogic.Ra.Ura.{Ura}
 use mir.Val.{Val}
-use Rattle.std.specs.Prelude.{◌≡◌, true, Option, Some}
-use Rattle.shared_pass.specs.Holding.{is_some}
-use Rattle.shared_pass.proofs.HeldPointers.{some_of}
+use Rattle.std.specs.Prelude.{◌≡◌, true, Option, Some, is_some}
+use Rattle.lock_core.proofs.Lists.{some_of}
 use Rattle.shared_pass.specs.contracts.pointer.WorkingPointer as pointer
 use base.Logic.{SProp, ent, id⊢}
 use base.Fml.{ftrue, fsep}

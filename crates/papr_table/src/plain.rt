@@ -73,6 +73,8 @@ impl EntryStore for PlainTable {
         self.order
     }
 
+    // In line, so that a loop over entries doesn't store the operation anew for each of them.
+    #[inline(always)]
     fn apply(&mut self, entry: u32, op: Op) -> Receipt {
         let index = entry as usize;
         let before = self.states[index];

@@ -77,6 +77,7 @@ impl<'a> Replay<'a> {
     }
 
     // The receipt of this operation on this state, in the place of the next.
+    #[inline(always)]
     fn answer(&mut self, entry: u32, before: EntryState, op: Op) -> Receipt
         ensures receipt { IsReceiptOf entry op result }
         ensures before { result.before ≡ before }
@@ -116,6 +117,8 @@ impl<'a> EntryStore for Replay<'a> {
         self.order
     }
 
+    // In line, as that of a plain table is.
+    #[inline(always)]
     fn apply(&mut self, entry: u32, op: Op) -> Receipt {
         let before = self.next(&op);
         self.answer(entry, before, op)

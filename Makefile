@@ -8,7 +8,9 @@
 #                                 (include/papr.h), the shared table (include/papr_shared.h) and the whole program on bytes
 #                                 (include/papr_bytes.h), as archives and as shared objects in out/lib
 #   make wheel                    the Python package, out/dist/papr-VERSION-py3-none-any.whl
-#   make aarch64                  build the libraries and the program for aarch64 too, in out/aarch64
+#   make sanitized                build the libraries for C with sanitizers' checks inside, in out/sanitized
+#   make aarch64                  build the libraries and the program for aarch64 too, in out/aarch64; make ppc64le and
+#                                 make riscv64 do it for those
 #   make page                     build docs/papr.html, in which the program runs in a browser
 #   make uninstall PREFIX=/usr    take away what install put there
 #   make dist                     the committed sources as out/dist/papr-VERSION.tar.gz
@@ -60,13 +62,14 @@ dist = out/dist
 
 # A tool's name behind papr-, and its file in tools/.
 tools = from-qemu:qemu-log-to-trace history:entry-history picture:run-picture receipts:receipts why:why bad-line:bad-line \
-    cut:cut-trace entries:htab-to-entries decode:decode diff:diff
+    cut:cut-trace find-order:find-order entries:htab-to-entries decode:decode diff:diff
 tool_name = $(firstword $(subst :, ,$(1)))
 tool_file = $(lastword $(subst :, ,$(1)))
 commands = $(foreach tool,$(tools),papr-$(call tool_name,$(tool)))
 tool_files = $(foreach tool,$(tools),tools/$(call tool_file,$(tool)))
-modules = $(addprefix tools/,choosing.py common.py decoding.py grants.py judging.py known.py refusals.py replies.py svg.py \
-    traces.py launcher.bash telling.bash)
+modules = $(addprefix tools/,call_steps.py certificate.py choosing.py common.py conflict.py decoding.py entry_states.py \
+    grants.py histories.py joint.py judging.py known.py numerals.py order.py processors.py refusals.py replies.py svg.py \
+    timed.py traces.py writing.py launcher.bash telling.bash)
 package = $(wildcard bindings/python/papr/*.py) bindings/python/papr/py.typed
 pages = man/papr.1 $(commands:%=man/%.1)
 formats = man/papr-trace.5 man/papr-replies.5
@@ -77,7 +80,8 @@ sources = $(foreach folder,$(folders),$(wildcard examples/$(folder)/*.*))
 texts = README.md CHANGELOG.md CONTRIBUTING.md LICENSE-APACHE LICENSE-MIT
 documents = $(wildcard docs/*.md docs/*.svg docs/*.html docs/*.png)
 
-.PHONY: all check install install-program install-library library aarch64 wheel page uninstall dist deb gate release \
+.PHONY: all check install install-program install-library library sanitized aarch64 ppc64le riscv64 s390x ppc64 wheel page \
+    uninstall dist deb gate release \
     $(own_program) $(own_library)
 
 all $(own_program):
@@ -101,8 +105,21 @@ $(own_shared): $(LIBRARY) $(SHARED_TABLE) include/papr.h include/papr_shared.h
 $(own_bytes_shared): $(BYTES_LIBRARY) include/papr_bytes.h
 	tools/shared-library $(BYTES_LIBRARY) $@
 
+sanitized:
+	tools/sanitized-libraries
+
 aarch64:
-	tools/aarch64/build-aarch64
+	tools/targets/build-for aarch64
+
+ppc64le:
+	tools/targets/build-for ppc64le
+
+riscv64:
+	tools/targets/build-for riscv64
+
+# Big-endian: the build says why there is nothing.
+s390x ppc64:
+	tools/targets/build-for $@
 
 wheel:
 	bindings/python/build-wheel "$(dist)"
@@ -216,8 +233,9 @@ dist:
 	        --transform='s,^\.,papr-$(VERSION),' .; \
 	fi
 
+# Packages for another processor: host='--for ARCHITECTURE TOOLS', with the files for it.
 deb: $(foreach it,$(files),$($(it)))
-	tools/debian $(VERSION) "$(dist)" $(foreach it,$(files),$(it)="$($(it))")
+	tools/debian $(host) $(VERSION) "$(dist)" $(foreach it,$(files),$(it)="$($(it))")
 
 gate:
 	tools/gate

@@ -9,6 +9,7 @@ complete -c papr -n __fish_is_first_token -a image -d 'Write the table at the en
 complete -c papr -n __fish_is_first_token -a drill -d 'Run a generated trace: SEED LINES'
 complete -c papr -n __fish_is_first_token -a why -d 'Say why a trace is refused'
 complete -c papr -n __fish_is_first_token -a bad-line -d 'Find the first line whose reply is wrong'
+complete -c papr -n __fish_is_first_token -a find-order -d 'Judge replies without receipts'
 complete -c papr -n __fish_is_first_token -a decode -d 'Explain entries, receipts or replies'
 complete -c papr -n __fish_is_first_token -a receipts -d 'Write receipts as a table'
 complete -c papr -n __fish_is_first_token -a history -d 'Draw the history of one entry'
@@ -22,7 +23,7 @@ complete -c papr -n __fish_is_first_token -l version -d 'The version'
 complete -c papr -s h -l help -d 'Help'
 complete -c papr -n '__fish_prev_arg_in image' -f -a old -d 'In the layout of Power ISA 2.07'
 complete -c papr -n '__fish_prev_arg_in image' -f -a new -d 'In the layout of Power ISA 3.0'
-complete -c papr -n '__fish_prev_arg_in help' -f -a 'run par check set image drill why bad-line decode receipts history picture diff from-qemu entries cut'
+complete -c papr -n '__fish_prev_arg_in help' -f -a 'run par check set image drill why bad-line find-order decode receipts history picture diff from-qemu entries cut'
 complete -c papr -n '__fish_seen_subcommand_from run par check set image drill' -s o -l output -r -d 'Write there, whole or not at all'
 
 complete -c papr -n '__fish_seen_subcommand_from why' -l set -d 'A set of partitions'
@@ -121,6 +122,12 @@ complete -c papr -n '__fish_seen_subcommand_from cut' -l parts -r -d 'Write the 
 complete -c papr-cut -l parts -r -d 'Write the parts into this folder'
 complete -c papr -n '__fish_seen_subcommand_from cut' -l papr -r -d 'The papr that runs the parts'
 complete -c papr-cut -l papr -r -d 'The papr that runs the parts'
-for tool in papr-why papr-bad-line papr-decode papr-receipts papr-history papr-picture papr-diff papr-from-qemu papr-entries papr-cut
+complete -c papr -n '__fish_seen_subcommand_from find-order' -l strict -d 'Allow no known difference'
+complete -c papr-find-order -l strict -d 'Allow no known difference'
+complete -c papr -n '__fish_seen_subcommand_from find-order' -l steps -x -d 'Try at most N steps'
+complete -c papr-find-order -l steps -x -d 'Try at most N steps'
+complete -c papr -n '__fish_seen_subcommand_from find-order' -s o -l output -r -d 'Write what is judged to this file'
+complete -c papr-find-order -s o -l output -r -d 'Write what is judged to this file'
+for tool in papr-why papr-bad-line papr-find-order papr-decode papr-receipts papr-history papr-picture papr-diff papr-from-qemu papr-entries papr-cut
     complete -c $tool -s h -l help -d 'What the tool does'
 end

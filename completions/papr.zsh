@@ -1,4 +1,4 @@
-#compdef papr papr-from-qemu papr-history papr-picture papr-receipts papr-why papr-bad-line papr-cut papr-entries papr-decode papr-diff
+#compdef papr papr-from-qemu papr-history papr-picture papr-receipts papr-why papr-bad-line papr-find-order papr-cut papr-entries papr-decode papr-diff
 # Completion of papr's commands, options and files, and of its tools by names of their own, in zsh.
 
 _papr_commands() {
@@ -11,6 +11,7 @@ _papr_commands() {
         'drill[run a generated trace: SEED LINES]' \
         'why[say why a trace is refused]' \
         'bad-line[find the first line whose reply is wrong]' \
+        'find-order[judge replies without receipts]' \
         'decode[explain entries, receipts or replies]' \
         'receipts[write receipts as a table]' \
         'history[draw the history of one entry]' \

@@ -16,15 +16,20 @@
  *             and the following ones: at most 8.
  *   receipts  is an array of `receipts_room` elements for what the call did to entries, in order: at
  *             most 16. An array is filled from its first element on, as far as it goes. The answer
- *             says how many elements were filled; the others are unchanged. With a room of 0 the
- *             pointer may be NULL.
+ *             says how many elements were filled; the others are unchanged.
+ *
+ * With a count or a room of 0 a pointer may be NULL.
  *
  * If the order isn't from 18 to 34, or the count isn't that of the order, the answer is
  * PAPR_H_PARAMETER, and nothing changes.
  *
  * The functions can't check these conditions, so the caller has to ensure them: one call at a time on
  * a table; no parameter's memory overlaps that of another; entries and lists of grants are all zero or
- * as the calls left them; bools are 0 or 1; and each pointer to const is to initialised memory.
+ * as the calls left them; bools are 0 or 1; and each pointer to const is to initialised memory. Pointers
+ * are aligned as C aligns their types: entries, words and receipts to 8 bytes, as malloc aligns them. If
+ * memory overlaps, what a call writes by one parameter may replace what it has, or writes, by another.
+ *
+ * A call needs at most 2 KB of stack on x86-64, and papr_make_grants 12 KB.
  */
 #ifndef PAPR_H
 #define PAPR_H
@@ -58,7 +63,7 @@ uint32_t papr_version(void);
 struct papr_entry {
     uint64_t dword0;
     uint64_t dword1;    /* with R and C clear */
-    uint32_t stamp;     /* how often it changed, without R and C that accesses set */
+    uint32_t stamp;     /* how often calls entered, removed or protected it, or cleared its R or C */
     bool valid;
     bool referenced;    /* R */
     bool changed;       /* C */
@@ -128,7 +133,8 @@ struct papr_grant {
     bool is_io;                 /* a device's registers, not main storage */
 };
 
-/* A list of grants that papr_make_grants checked and sorted. All zero is the empty list. */
+/* A list of grants that papr_make_grants checked and sorted. All zero is the empty list. A list whose
+ * count is above 64 grants nothing. */
 struct papr_grants {
     struct papr_grant grants[64];
     uint32_t count;
@@ -364,6 +370,17 @@ struct papr_rehash {
     bool stale;                 /* at PAPR_H_SUCCESS: no cached translation is one of the new table */
 };
 
+/* Whether two tables share memory. No function of the library can tell: over one table, or over two that
+ * overlap, papr_rehash and the resize calls answer as they do over two that are apart, and entries are
+ * lost. So ask before the memory for a new table is lent for the first time. */
+static inline bool papr_overlap(const struct papr_entry *entries, size_t count,
+                                const struct papr_entry *into, size_t into_count)
+{
+    uintptr_t first = (uintptr_t)entries, second = (uintptr_t)into;
+    return first < second ? (second - first) / sizeof *entries < count
+                          : (first - second) / sizeof *into < into_count;
+}
+
 /* Carries the bolted entries of one table to another, as H_RESIZE_HPT_COMMIT does: each that
  * translates a page goes to that page's group there, at its old slot and at stamp 0. The old content
  * of `into` is lost; at PAPR_H_PTEG_FULL it is empty. In `into` each entry is marked that is valid then
@@ -374,8 +391,10 @@ struct papr_rehash papr_rehash(const struct papr_entry *entries, size_t count, u
 
 /* ---- the resize calls */
 
-/* What is pending between two resize calls. All zero is nothing. The calls write it; they read a struct
- * that no call left as nothing pending. */
+/* What is pending between two resize calls. All zero is nothing. The calls write it. They read as nothing
+ * pending a struct whose order isn't from 18 to 34 or whose `ready` is above 2^(order - 4). Any other
+ * struct, also one that no call left, is read as it is: its first `ready` entries count as empty in
+ * papr_resize_prepare, whatever they have. papr_resize_commit replaces all entries. */
 struct papr_resize {
     uint32_t ready;             /* entries of the pending table that are ready, from the first on */
     uint8_t order;              /* it has 2^order bytes */
@@ -396,9 +415,9 @@ int64_t papr_resize_prepare(struct papr_resize *resize, uint8_t limit, uint64_t 
  * to the pending one, as papr_rehash does. At PAPR_H_SUCCESS `into` is the current table from then on,
  * and no cached translation is valid any more. At PAPR_H_PTEG_FULL the current table stays. After both
  * nothing is pending. PAPR_H_PARAMETER: there is a flag, the shift isn't from 18 to 46, the current
- * table's order isn't from 18 to 34, its count isn't 2^(order - 4), or `into_count` isn't
- * 2^(shift - 4); PAPR_H_CLOSED: no table of that shift is pending; PAPR_H_BUSY: it isn't ready. At
- * these three nothing changes. */
+ * table's order isn't from 18 to 34, or its count isn't 2^(order - 4). Then PAPR_H_CLOSED: no table of
+ * that shift is pending; PAPR_H_BUSY: it isn't ready. Then PAPR_H_PARAMETER: `into_count` isn't
+ * 2^(shift - 4). At these nothing changes. */
 struct papr_rehash papr_resize_commit(struct papr_resize *resize, const struct papr_entry *entries,
                                       size_t count, uint8_t order, struct papr_entry *into,
                                       size_t into_count, uint64_t flags, uint64_t shift);
@@ -450,8 +469,9 @@ struct papr_slot papr_slb_find(const struct papr_slb *slb, uint64_t ea);
 
 /* H_PUT_TCE: sets the translation control entry of the page that has the bus address `ioba`, over any
  * that is there. A `tce` that permits neither a read (1) nor a write (2) empties the entry. No word. Up to
- * two receipts. PAPR_H_PARAMETER: there is no such window or page, or no single grant of main storage
- * holds the page of the `tce`; PAPR_H_HARDWARE. */
+ * two receipts. PAPR_H_PARAMETER: there is no such window or page, or the `tce` permits something and no
+ * single grant of main storage holds its page. PAPR_H_HARDWARE: the entry can't change again; the one
+ * that was there may be gone. */
 struct papr_reply papr_put_tce(struct papr_entry *entries, size_t pages, uint64_t base,
                                const struct papr_grants *grants, uint64_t ioba, uint64_t tce,
                                struct papr_receipt *receipts, size_t receipts_room);
@@ -516,7 +536,7 @@ struct papr_transfer papr_import(struct papr_entry *entries, size_t count, uint8
                                  const struct papr_grants *grants, uint8_t layout, size_t first,
                                  size_t number, const uint8_t *bytes, size_t bytes_size);
 
-/* ---- the layout of the structs, on x86-64 and on aarch64: asserted from C11 and C++11 on */
+/* ---- the layout of the structs, on each processor it is built for: asserted from C11 and C++11 on */
 
 #if defined(__cplusplus) && __cplusplus >= 201103L
 #define PAPR_TEST static_assert

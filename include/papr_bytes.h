@@ -4,7 +4,7 @@
  * program's definitions say (docs/LIBRARY.md).
  *
  * A call allocates memory from the C library's heap while it runs, frees all of it, keeps no pointer and starts no thread.
- * Several calls may run at the same time, each in its own thread.
+ * Several calls may run at the same time, each in its own thread. A call needs at most 64 KB of stack on x86-64.
  *
  * The function can't check these conditions, so the caller has to ensure them: a pointer is to initialised memory of the
  * given length, and the buffer `output` doesn't overlap another parameter's memory. With a length of 0 a pointer may

@@ -8,10 +8,10 @@
  * and papr_close writes the entries back, so shared and serial use take turns on the same entries. A
  * resize is: stop the other threads, papr_join, papr_close, papr_rehash, papr_open, papr_split.
  *
- * No call waits, sleeps or spins. If another thread is at an entry, the answer is PAPR_H_BUSY (of a walk
- * PAPR_WALK_BUSY). The pass then keeps the call and what it has made, and papr_again goes on with it at
- * the same entry; until then the pass refuses other calls with PAPR_H_PARAMETER. So no operation is made
- * twice, and the answer in the end is that of the whole call.
+ * No call waits or sleeps, and each returns. If another thread is at an entry, the answer is PAPR_H_BUSY
+ * (of a walk PAPR_WALK_BUSY). The pass then keeps the call and what it has made, and papr_again goes on
+ * with it at the same entry; until then the pass refuses other calls with PAPR_H_PARAMETER. So no
+ * operation is made twice, and the answer in the end is that of the whole call.
  *
  *     struct papr_reply reply = papr_try_h_enter(&pass, &grants, flags, ptex, pteh, ptel,
  *                                                words, 8, receipts, 16);
@@ -23,8 +23,15 @@
  *
  * The functions can't check these conditions, so the caller has to ensure them: a pass is all zero or as
  * the calls left it, is never copied, and is in one call at a time (it may move from thread to thread
- * if a lock or a join orders that); papr_join takes passes of one table; and what papr.h says of
- * parameters. The library takes memory by malloc in papr_open and papr_split alone.
+ * if a lock or a join orders that); no thread ends inside a call, and none leaves it by longjmp;
+ * papr_join takes passes of one table; and what papr.h says of parameters. The library takes memory by
+ * malloc in papr_open and papr_split alone.
+ *
+ * A thread that ends inside a call (pthread_cancel) may leave its entry busy for good, and its pass as one
+ * that can't be joined; then the table can't be closed. In a child that fork made while other threads were
+ * inside calls the table is lost in the same way. The child may open another one.
+ *
+ * A call needs at most 2 KB of stack on x86-64, papr_open 12 KB, and papr_close 4 KB.
  */
 #ifndef PAPR_SHARED_H
 #define PAPR_SHARED_H

@@ -2,6 +2,7 @@
 
 import base64
 import gzip
+import hashlib
 import json
 import re
 from collections.abc import Iterator
@@ -92,16 +93,24 @@ def examples() -> dict[str, str]:
     return {**packed, "linux-boot.trace": encoded(boot.read_bytes())}
 
 
+def hash_of(text: str) -> str:
+    """How the page's policy names the one script, or the one style, that may be in it."""
+    return "sha256-" + encoded(hashlib.sha256(text.encode()).digest())
+
+
 def page_of(module: bytes, made: str) -> str:
     """The page that holds a module, and says what it was made with."""
     formats = (TOP / "docs" / "FORMATS.md").read_text(encoding="utf-8")
     data = json.dumps({"formats": formats_of(formats), "examples": examples()}, ensure_ascii=False)
+    style, code = f"\n{(HERE / 'page.css').read_text(encoding='utf-8').strip()}\n", f"\n{script()}\n"
     pieces = {
-        "STYLE": (HERE / "page.css").read_text(encoding="utf-8").strip(),
+        "STYLE": style,
+        "STYLESUM": hash_of(style),
         "MADE": made,
         "MODULE": encoded(gzip.compress(module, mtime=0)),
         "DATA": data.replace("</", "<\\/"),
-        "SCRIPT": script(),
+        "SCRIPT": code,
+        "SCRIPTSUM": hash_of(code),
     }
     text = (HERE / "page.html").read_text(encoding="utf-8")
     return re.sub(r"\{\{([A-Z]+)\}\}", lambda found: pieces[found[1]], text)

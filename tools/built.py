@@ -4,6 +4,7 @@ from dataclasses import dataclass
 from pathlib import Path
 
 from crates import CRATES, TOP, archive_of
+from machines import Machine
 
 VERSION = (TOP / "VERSION").read_text(encoding="ascii").strip()
 SHARED, BYTES_SHARED = f"libpapr.so.{VERSION}", f"libpapr_bytes.so.{VERSION}"
@@ -44,10 +45,10 @@ class Built:
         return [path for path in self.files if not path.is_file()]
 
 
-def in_folder(machine: str, folder: Path) -> Built:
-    """The files of a machine for which all is built into one folder."""
+def of_machine(machine: Machine) -> Built:
+    """The files for another processor, for which all is built into one folder."""
     names = ("papr", "libpapr.a", "libpapr_shared.a", "libpapr_bytes.a", SHARED, BYTES_SHARED)
-    return Built(machine, *(folder / name for name in names))
+    return Built(machine.name, *(TOP / "out" / machine.name / name for name in names))
 
 
 def of_crate(name: str, file: str) -> Path:
@@ -64,4 +65,3 @@ NATIVE = Built(
     TOP / "out" / "lib" / SHARED,
     TOP / "out" / "lib" / BYTES_SHARED,
 )
-AARCH64 = in_folder("aarch64", TOP / "out" / "aarch64")

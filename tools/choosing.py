@@ -5,9 +5,10 @@ import re
 from dataclasses import dataclass
 from typing import Iterable, Optional
 
-from common import Bad, read_number, text_of
+from common import Bad, text_of
 from decoding import Decoder, Page
 from known import Known
+from numerals import read_number
 from replies import TABLE, Receipt, Reply, replies_of
 from traces import read_order
 

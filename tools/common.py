@@ -1,14 +1,16 @@
-"""What the tools share: numbers as a trace writes them, input, and how a tool ends."""
+"""What the tools share: input, and how a tool ends."""
 
 import argparse
+import errno
+import io
 import os
-import re
 import signal
 import subprocess
 import sys
+import traceback
 from contextlib import contextmanager
 from pathlib import Path
-from typing import Callable, Iterator, Optional, TextIO
+from typing import BinaryIO, Callable, Iterator, Optional, TextIO
 
 HERE = Path(__file__).resolve().parent
 # The Python package papr: installed it stands beside the tools, and in a checkout here.
@@ -29,24 +31,44 @@ class Missing(Bad):
     status = 127
 
 
-def read_number(word: str) -> int:
-    """A number as a trace writes it: decimal, or hexadecimal behind 0x, below 2^64."""
-    if not re.fullmatch(r"0[xX][0-9a-fA-F]{1,16}|[0-9]{1,20}", word):
-        raise argparse.ArgumentTypeError(f"`{word}` is no number")
-    value = int(word, 16) if word[:2] in ("0x", "0X") else int(word)
-    if value >= 2**64:
-        raise argparse.ArgumentTypeError(f"`{word}` is not below 2^64")
-    return value
+def closed(name: str) -> OSError:
+    """The error of a stream that is closed from the start, for which Python has no file."""
+    return OSError(errno.EBADF, os.strerror(errno.EBADF), name)
+
+
+class ClosedOutput(io.TextIOBase):
+    """Standard output where it is closed: nothing can be written to it."""
+
+    def write(self, _text: str) -> int:
+        """Fails."""
+        raise closed("standard output")
+
+    def fileno(self) -> int:
+        """Fails."""
+        raise closed("standard output")
 
 
 @contextmanager
-def text_of(path: Optional[str]) -> Iterator[TextIO]:
-    """The file's text, or that of standard input where no file or `-` is named."""
+def bytes_of(path: Optional[str]) -> Iterator[BinaryIO]:
+    """The file's bytes, or those of standard input where no file or `-` is named."""
     if path is None or path == "-":
-        yield sys.stdin
+        if sys.stdin is None:
+            raise closed("standard input")
+        yield sys.stdin.buffer
     else:
-        with open(path, encoding="ascii") as text:
+        with open(path, "rb") as stream:
+            yield stream
+
+
+@contextmanager
+def text_of(path: Optional[str], newline: Optional[str] = None) -> Iterator[TextIO]:
+    """The text of a file or of standard input, which is ASCII whatever the locale is."""
+    with bytes_of(path) as stream:
+        text = io.TextIOWrapper(stream, encoding="ascii", newline=newline)
+        try:
             yield text
+        finally:
+            text.detach()
 
 
 def page(name: str) -> Path:
@@ -77,12 +99,34 @@ def parser_of(description: str, epilog: str) -> argparse.ArgumentParser:
 
 
 def note(words: object) -> None:
-    """A line on standard error."""
-    print(f"{NAME}: {words}", file=sys.stderr)
+    """A line on standard error, unless that is closed."""
+    if sys.stderr is not None:
+        print(f"{NAME}: {words}", file=sys.stderr)
+
+
+def settle_output() -> None:
+    """Has standard output tell if it is closed, and escape what its encoding lacks."""
+    if sys.stdout is None:
+        sys.stdout = ClosedOutput()
+    elif isinstance(sys.stdout, io.TextIOWrapper):
+        sys.stdout.reconfigure(errors="backslashreplace")
+
+
+def fault_of(error: Exception) -> str:
+    """An error of the tool itself: which it is, and the last line of these sources that it comes from."""
+    frames = traceback.extract_tb(error.__traceback__)
+    own = [frame for frame in frames if HERE.parent in Path(frame.filename).resolve().parents]
+    place = own[-1] if own else frames[-1]
+    said = str(error).partition("\n")[0][:200]
+    return f"an error in {Path(place.filename).name}, line {place.lineno}: {type(error).__name__}: {said}"
 
 
 def run_tool(work: Callable[[], Optional[int]]) -> int:
-    """Does a tool's work. The answer is the exit status: 2 and a message where it can't be done."""
+    """Does a tool's work. The answer is the exit status: 2 and a message where it can't be done.
+
+    An error that no tool expects ends so too: other statuses are answers of some tools.
+    """
+    settle_output()
     try:
         status = work()
         sys.stdout.flush()
@@ -91,7 +135,7 @@ def run_tool(work: Callable[[], Optional[int]]) -> int:
         note(error)
         return error.status
     except UnicodeDecodeError as error:
-        note(error)
+        note(f"the input has the byte {error.object[error.start]:#04x}, which isn't {error.encoding.upper()}")
     except KeyboardInterrupt:
         return 128 + signal.SIGINT
     except BrokenPipeError:
@@ -99,5 +143,9 @@ def run_tool(work: Callable[[], Optional[int]]) -> int:
         os.dup2(os.open(os.devnull, os.O_WRONLY), sys.stdout.fileno())
         return 0
     except OSError as error:
-        note(f"{error.filename or 'output'}: {error.strerror}")
+        note(f"{error.filename or 'output'}: {error.strerror or error}")
+    except MemoryError:
+        note("there is not enough memory")
+    except Exception as error:
+        note(fault_of(error))
     return 2

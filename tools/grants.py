@@ -1,11 +1,13 @@
 """Grants of memory for a trace: those given, and those that its H_ENTER calls need."""
 
 import argparse
+from bisect import bisect_right
 from collections import Counter
 from dataclasses import dataclass
 from typing import Iterable, Optional
 
-from common import Bad, read_number
+from common import Bad
+from numerals import read_number
 
 MOST_GRANTS = 64
 GRANULE = 4_096
@@ -85,14 +87,14 @@ def suits(dword1: int, kind: str) -> bool:
     return dword1 >> 3 & 0xF in SUITED[kind]
 
 
-def is_held(dword0: int, dword1: int, grants: Iterable[Grant]) -> bool:
+def is_held(dword0: int, dword1: int, grants: "Held") -> bool:
     """Whether papr's H_ENTER takes the words: one grant holds the page, and suits W, I, M and G."""
     shift = actual_shift(dword0, dword1)
     if shift is None or dword0 >> 62 > 1:
         return False
     start = (dword1 & 0x0FFF_FFFF_FFFF_F000) >> shift << shift
-    page = start, start + 2**shift
-    return any(inside(page, g.pages) and suits(dword1, g.kind) for g in grants)
+    grant = grants.around((start, start + 2**shift))
+    return grant is not None and suits(dword1, grant.kind)
 
 
 def meets(one: Range, other: Range) -> bool:
@@ -116,30 +118,54 @@ def merged(ranges: Iterable[Range]) -> list[Range]:
     return result
 
 
-def spanned(ranges: list[Range], others: list[Range]) -> list[Range]:
+class Others:
+    """Ranges, in order, so that one that isn't empty need not be compared with each of them."""
+
+    def __init__(self, ranges: Iterable[Range]) -> None:
+        whole = merged(ranges)
+        self._starts, self._ends = [start for start, _ in whole], [end for _, end in whole]
+
+    def meet(self, one: Range) -> bool:
+        """Whether one of them has a byte in common with this range."""
+        at = bisect_right(self._ends, one[0])
+        return at < len(self._ends) and self._starts[at] < one[1]
+
+
+class Held:
+    """Grants, of which no two meet, in the order of their logical ranges."""
+
+    def __init__(self, grants: Iterable[Grant]) -> None:
+        self._grants = sorted(grants, key=lambda grant: grant.logical)
+        self._starts = [grant.logical for grant in self._grants]
+
+    def around(self, page: Range) -> Optional[Grant]:
+        """The grant that holds a page."""
+        at = bisect_right(self._starts, page[0]) - 1
+        return self._grants[at] if at >= 0 and inside(page, self._grants[at].pages) else None
+
+
+def spanned(ranges: list[Range], others: Others) -> list[Range]:
     """The ranges with every gap closed in which no other range lies."""
     result: list[Range] = []
     for start, end in ranges:
-        if result and not any(meets((result[-1][1], start), other) for other in others):
+        if result and not others.meet((result[-1][1], start)):
             start = result.pop()[0]
         result.append((start, end))
     return result
 
 
-def joined(ranges: list[Range], others: list[Range], room: int) -> list[Range]:
+def joined(ranges: list[Range], others: Others, room: int) -> list[Range]:
     """At most `room` ranges, made by closing the smallest gaps in which no other range lies."""
-    result = list(ranges)
-    while len(result) > room:
-        gaps = [
-            (right[0] - left[1], place)
-            for place, (left, right) in enumerate(zip(result, result[1:]))
-            if not any(meets((left[1], right[0]), other) for other in others)
-        ]
-        if not gaps:
-            return result[:room]
-        place = min(gaps)[1]
-        result[place : place + 2] = [(result[place][0], result[place + 1][1])]
-    return result
+    gaps = [(left[1], right[0]) for left, right in zip(ranges, ranges[1:])]
+    # Which gap is closed changes no other. Of equal ones the first is closed first.
+    open_gaps = sorted((end - start, start) for start, end in gaps if not others.meet((start, end)))
+    closed = {start for _size, start in open_gaps[: max(0, len(ranges) - room)]}
+    result: list[Range] = []
+    for start, end in ranges:
+        if result and result[-1][1] in closed:
+            start = result.pop()[0]
+        result.append((start, end))
+    return result[:room]
 
 
 def free_machine(length: int, grants: list[Grant]) -> int:
@@ -162,18 +188,19 @@ def worked_out(given: list[Grant], pages: Iterable[Page]) -> list[Grant]:
     closed = [g.pages for g in given]
     if ram:
         # RAM of a pseries machine begins at 0, so it is one range where nothing else lies in it.
-        put(grants, "ram", spanned(merged([(0, 0), *ram]), inhibited + closed))
-    closed = [g.pages for g in grants]
-    free = [r for r in inhibited if not any(meets(r, other) for other in closed)]
-    put(grants, "io", joined(free, closed, MOST_GRANTS - len(grants)))
+        put(grants, "ram", spanned(merged([(0, 0), *ram]), Others(inhibited + closed)))
+    taken = Others(g.pages for g in grants)
+    free = [r for r in inhibited if not taken.meet(r)]
+    put(grants, "io", joined(free, taken, MOST_GRANTS - len(grants)))
     return grants
 
 
 def put(grants: list[Grant], kind: str, ranges: list[Range]) -> None:
     """Adds a grant for each range that meets no grant, at free machine addresses."""
     for start, end in ranges:
-        is_taken = any(meets((start, end), g.pages) for g in grants)
-        if start == end or is_taken or len(grants) == MOST_GRANTS:
+        if len(grants) == MOST_GRANTS:
+            return
+        if start == end or any(meets((start, end), g.pages) for g in grants):
             continue
         machine = free_machine(end - start, grants)
         if machine + end - start > ADDRESS_END:
@@ -201,11 +228,8 @@ def check(grants: list[Grant]) -> None:
 
 def count_ungranted(pages: Counter[Page], grants: list[Grant]) -> int:
     """How many H_ENTER name a page that lies in no single grant of its kind."""
-    return sum(
-        count
-        for (kind, page), count in pages.items()
-        if not any(g.kind == kind and inside(page, g.pages) for g in grants)
-    )
+    held = {kind: Held(g for g in grants if g.kind == kind) for kind in SUITED}
+    return sum(count for (kind, page), count in pages.items() if held[kind].around(page) is None)
 
 
 def add_options(parser: argparse.ArgumentParser) -> None:

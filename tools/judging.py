@@ -7,8 +7,8 @@ from typing import Optional
 from common import Bad, program
 
 GOOD, BAD_STATUS = b"good\n", 6
-BAD = re.compile(rb"bad section ([0-9]+)\n")
-REFUSED = re.compile(rb"papr: line ([0-9]+): ([a-z]+)\n")
+BAD = re.compile(rb"bad section ([0-9]{1,20})\n")
+REFUSED = re.compile(rb"papr: line ([0-9]{1,20}): ([a-z]+)\n")
 
 
 def judge(trace: bytes, text: bytes) -> Optional[int]:

@@ -4,8 +4,10 @@ from typing import Iterable, Optional
 
 from common import Bad
 from decoding import Doublewords
+from numerals import checked
+from papr.numbers import hexadecimal
 from replies import COMMIT, TABLE, Receipt, Reply, Shown
-from traces import ORDERS, number_of, resize_of
+from traces import ORDERS, number_of, read_order, resize_of
 
 ENTER, ENTER_NUMBER = "H_ENTER", 0x08
 
@@ -21,7 +23,7 @@ class Known:
             if words[:1] == ["begin"]:
                 self._orders.setdefault(0, ORDERS[0])
             elif words[:1] == ["order"]:
-                self._orders[0] = number_of(words, 1) or ORDERS[0]
+                self._orders[0] = checked(read_order, " ".join(words[1:]))
         if order is not None:
             self._orders[0] = order
 
@@ -30,7 +32,7 @@ class Known:
         for entry in shown:
             self._words[reply.table, entry.entry, entry.stamp] = entry.dword0, entry.dword1
         if reply.call == "dump":
-            self._orders[reply.table] = int(reply.words[reply.words.index("order") + 1])
+            self._orders[reply.table] = order_of_dump(reply)
             return
         receipts = [it for it in reply.of_table if it.answer in ("removed", "read")]
         values = values_of(reply.words) if receipts else []
@@ -46,7 +48,7 @@ class Known:
 
     def _line(self, number: int) -> list[str]:
         """The words of a line of the trace."""
-        if number > len(self._trace):
+        if not 1 <= number <= len(self._trace):
             raise Bad(f"the trace has no line {number}: these aren't its replies")
         return self._trace[number - 1]
 
@@ -54,7 +56,7 @@ class Known:
         """What a line of the trace tells of its reply."""
         if (reply.call, reply.ending) == (COMMIT, "0"):
             resize = resize_of(words)
-            if resize is not None:
+            if resize is not None and resize.shift in ORDERS:
                 self._orders[reply.table + 1] = resize.shift
         first = 4 if words[1:2] == [ENTER] else 5
         if first == 5 and (words[1:2] != ["hcall"] or number_of(words, 2) != ENTER_NUMBER):
@@ -74,6 +76,15 @@ class Known:
         return self._words.get((receipt.table, receipt.entry, stamp)) if receipt.store == TABLE else None
 
 
+def order_of_dump(reply: Reply) -> int:
+    """The table's order: a dump's words are `table T order S place P entries K`."""
+    return int(reply.words[3])
+
+
 def values_of(words: list[str]) -> list[int]:
     """The hexadecimal words of a reply."""
-    return [int(word, 16) for word in words if word.startswith("0x")]
+    given = [hexadecimal(word) for word in words if word.startswith("0x")]
+    values = [value for value in given if value is not None]
+    if len(values) < len(given):
+        raise Bad(f"one of these words of a reply is no number: {' '.join(words)[:60]}")
+    return values

@@ -20,11 +20,11 @@ fi
 # The program's commands, and each tool's command with its file.
 answered=(run par check set image drill)
 declare -A file_of=([why]=why [history]=entry-history [picture]=run-picture [receipts]=receipts [decode]=decode
-    [diff]=diff [bad-line]=bad-line [cut]=cut-trace [from-qemu]=qemu-log-to-trace [entries]=htab-to-entries)
+    [diff]=diff [bad-line]=bad-line [find-order]=find-order [cut]=cut-trace [from-qemu]=qemu-log-to-trace [entries]=htab-to-entries)
 
 most_bytes=16777217 # one more than the program takes
 made=()             # files to be removed at the end
-output=             # what -o names
+output=             # the file that -o names
 
 say() {
     printf 'papr: %s\n' "$@" >&2
@@ -67,7 +67,11 @@ build() {
     case $status in
         0) ;;
         129 | 130 | 143) end_by "$status" ;;
-        *) exit 126 ;;
+        *)
+            # (A build that is killed has said nothing.)
+            [ "$status" -lt 129 ] || say "the build was ended by signal $((status - 128))"
+            exit 126
+            ;;
     esac
 }
 
@@ -157,30 +161,55 @@ no_room() {
     exit 3
 }
 
-# contents FILE: writes what a file has, expanded, as far as the program reads, and tells whether that went well.
-contents() {
-    local ends expands
-    expander "$1"
-    if [ "$1" = - ]; then
-        head -c "$most_bytes"
-    elif [ -z "$expands" ]; then
-        head -c "$most_bytes" -- "$1"
-    elif ! command -v "$expands" >/dev/null; then
-        say "$1: $expands, which expands it, isn't installed"
-        return 1
-    else
-        "$expands" -dc -- "$1" | head -c "$most_bytes"
+# not_copied NAME: ends where the temporary file doesn't take what a file has.
+not_copied() {
+    say "$1: it can't be copied into ${TMPDIR:-/tmp}"
+    exit 3
+}
+
+# expanded FILE: adds what a compressed file has to the temporary file, as far as the program reads, or ends.
+expanded() {
+    local said ends
+    command -v "$expands" >/dev/null || { say "$1: $expands, which expands it, isn't installed" && exit 3; }
+    said=$(
+        exec 2>&1
+        "$expands" -dc -- "$1" | head -c "$most_bytes" >>"$again"
         ends=("${PIPESTATUS[@]}")
+        [ "${ends[1]}" -eq 0 ] || exit 2
         # (141: it had more than is read.)
-        [ "${ends[1]}" -eq 0 ] && { [ "${ends[0]}" -eq 0 ] || [ "${ends[0]}" -eq 141 ]; }
+        [ "${ends[0]}" -eq 0 ] || [ "${ends[0]}" -eq 141 ]
+    )
+    case $? in
+        0) ;;
+        2) not_copied "$1" ;;
+        *)
+            said=${said#$'\n'} said=${said%%$'\n'*} said=${said#"$expands: "}
+            say "$1: ${said#"$1: "}"
+            exit 3
+            ;;
+    esac
+}
+
+# contents FILE: adds what a file has, expanded, to the temporary file, or ends.
+contents() {
+    local expands
+    expander "$1"
+    if [ -n "$expands" ]; then
+        expanded "$1"
+    elif [ "$1" = - ]; then
+        head -c "$most_bytes" 2>/dev/null >>"$again" || not_copied 'standard input'
+    else
+        head -c "$most_bytes" -- "$1" 2>/dev/null >>"$again" || not_copied "$1"
     fi
 }
 
-# joined TRACE REPLIES: writes both as `check` reads them.
+# joined TRACE REPLIES: copies both as `check` reads them.
 joined() {
-    contents "$1" >"$again" || return
-    [ -z "$(tail -c 1 "$again")" ] || echo >>"$again"
-    { echo replies && contents "$2"; } >>"$again"
+    local between=replies
+    contents "$1"
+    [ -z "$(tail -c 1 "$again")" ] || between=$'\nreplies'
+    echo "$between" 2>/dev/null >>"$again" || not_copied "$1"
+    contents "$2"
 }
 
 # open_input [FILE [REPLIES]]: makes standard input what is named. Afterwards `name` is what messages call it, and
@@ -194,10 +223,10 @@ open_input() {
     expander "$name"
     if [ $# -eq 2 ]; then
         make_temporary || no_room
-        joined "$@" || exit 3
+        joined "$@"
     elif [ -n "$expands" ]; then
         make_temporary || no_room
-        contents "$1" >"$again" || exit 3
+        contents "$1"
     elif [ "$name" = - ]; then
         name='standard input'
         can_reread
@@ -224,30 +253,56 @@ can_reread() {
     fi
 }
 
+# copying: hands on standard input and copies it. A copy that has no room isn't the input, and is removed.
+copying() {
+    tee -- "$again" 2>/dev/null
+    # (Another status: the program has read enough.)
+    [ $? -ne 1 ] || rm -f -- "$again"
+}
+
 # read_again: writes the input once more.
 read_again() {
     tail -c "+$((skip + 1))" -- "$again" | head -c "$most_bytes"
 }
 
-# open_output FILE: makes standard output a file beside FILE, `part`, that takes its `place` once it is whole.
+# open_output FILE: makes standard output a new file beside FILE, `part`, that takes its `place` once it is whole.
 open_output() {
     place=$1
-    [ ! -L "$place" ] || place=$(readlink -f -- "$place")
-    part=$place.papr-$$
-    if [ -d "$place" ]; then
+    if [ -d "$1" ]; then
         say "$1: Is a directory"
         exit 4
-    elif [ -e "$place" ] && [ ! -f "$place" ]; then
+    elif [ -e "$1" ] && [ ! -f "$1" ]; then
         # A device or a pipe can't be replaced.
         part='' place=''
-        { exec >"$1"; } 2>/dev/null || { say "$1: it can't be written" && exit 4; }
-    elif { exec >"$part"; } 2>/dev/null; then
-        will_remove "$part"
-        [ ! -e "$place" ] || chmod --reference="$place" -- "$part" 2>/dev/null
-    else
-        say "$1: it can't be written"
-        exit 4
+        { exec >"$1"; } 2>/dev/null || not_written
+        return
     fi
+    [ ! -L "$1" ] || place=$(readlink -f -- "$1") || not_written
+    make_part || not_written
+    will_remove "$part"
+    [ ! -f "$place" ] || chmod --reference="$place" /dev/fd/1 2>/dev/null
+}
+
+not_written() {
+    say "$output: it can't be written"
+    exit 4
+}
+
+# make_part: makes standard output a file of one's own in the folder of `place`. Where it takes the place of a file it
+# has that one's mode later, and meanwhile nobody else reads it.
+make_part() {
+    local usual
+    usual=$(umask)
+    part=${place%"${place##*/}"}.papr.$$.$RANDOM$RANDOM
+    [ ! -f "$place" ] || umask 077
+    # (A new one, or none: `set -C`.)
+    set -C
+    if ! { exec >"$part"; } 2>/dev/null; then
+        part=''
+    fi
+    set +C
+    umask "$usual"
+    [ -n "$part" ] && [ -f /dev/fd/1 ]
 }
 
 # ---- a run
@@ -274,7 +329,7 @@ answer() {
     have_program
     [ -z "$output" ] || open_output "$output"
     if [ -n "$is_copied" ]; then
-        run_program "$@" < <(tee -- "$again" 2>/dev/null)
+        run_program "$@" < <(copying)
     else
         run_program "$@"
     fi
@@ -283,7 +338,7 @@ answer() {
     [ "$status" -eq 0 ] || telling tell "$status" "$@"
     [ "$status" -lt 129 ] || end_by "$status"
     if [ -n "$part" ] && { [ "$status" -eq 0 ] || [ "$status" -eq 6 ]; }; then
-        mv -f -- "$part" "$place" || exit 4
+        mv -f -T -- "$part" "$place" 2>/dev/null || not_written
     fi
     exit "$status"
 }
@@ -319,18 +374,24 @@ is_command() {
     esac
 }
 
+# take_output OPTION [FILE]: where the output goes.
+take_output() {
+    [ -n "${2-}" ] || telling wrong "$1 wants a file"
+    output=$2
+    case $2 in - | /dev/stdout) output='' ;; esac
+}
+
 # take_words WORD..: what stands behind a command: `words`, and the output.
 take_words() {
     words=()
     while [ $# -gt 0 ]; do
         case $1 in
             -o | --output)
-                [ $# -gt 1 ] || telling wrong "$1 wants a file"
-                output=$2
+                take_output "${@:1:2}"
                 shift
                 ;;
-            -o*) output=${1#-o} ;;
-            --output=*) output=${1#--output=} ;;
+            -o*) take_output -o "${1#-o}" ;;
+            --output=*) take_output --output "${1#--output=}" ;;
             --)
                 words+=("${@:2}")
                 break

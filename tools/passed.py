@@ -10,9 +10,10 @@ import subprocess
 from dataclasses import asdict, dataclass
 from pathlib import Path
 
-from built import AARCH64, NATIVE
+from built import NATIVE, of_machine
 from common import Bad
 from crates import CRATES, TOP, files_of, lines_of
+from machines import OTHERS
 
 NOTE = TOP / "out" / "gate.passed"
 AGAIN = "run tools/gate"
@@ -61,10 +62,10 @@ def sum_of_crate(name: str) -> str:
 
 
 def built_here() -> dict[str, str]:
-    """The checksum of each file that is built here. Those for the other processor may be left out, all of them."""
+    """The checksum of each file that is built here. Those for another processor may be left out, all of them."""
     if NATIVE.lacking:
         raise Bad(f"{NATIVE.lacking[0].relative_to(TOP)} isn't built; {AGAIN}")
-    others = [] if AARCH64.lacking else AARCH64.files
+    others = [path for it in map(of_machine, OTHERS.values()) if not it.lacking for path in it.files]
     return {path.relative_to(TOP).as_posix(): sum_of(path) for path in (*NATIVE.files, *others)}
 
 

@@ -4,14 +4,15 @@ Rules and forms are those of FORMATS.md. Of a rule with several parts, the one t
 """
 
 import re
-from argparse import ArgumentTypeError
 from dataclasses import dataclass
 from difflib import get_close_matches
 from typing import Callable, Iterator, Optional
 
 import grants
-from common import Bad, page, read_number
+from common import Bad, page
 from grants import Grant
+from papr.numbers import number
+from traces import ORDERS, begins_with_digit
 
 RULES, SETTINGS, RUN_LINES = "### Refusals", "### Configuration lines", "### Run lines"
 RULES_OF_SETS, ENTRIES = "## What `set` reads and writes", "### Entries of the opening table"
@@ -63,10 +64,7 @@ def own_words_of(line: str, command: str) -> list[str]:
 
 def number_in(words: list[str], place: int) -> Optional[int]:
     """The number at a place of a line, if there is one."""
-    try:
-        return read_number(words[place])
-    except (ArgumentTypeError, IndexError):
-        return None
+    return number(words[place]) if place < len(words) else None
 
 
 # ---- what FORMATS.md says
@@ -123,14 +121,14 @@ def forms_of(formats: str) -> dict[str, str]:
 
 def part_of_word(refused: Refused) -> Optional[int]:
     """A first word that begins no line, or a second one behind a processor's number."""
-    return int(refused.own_words[0][0].isdigit()) if refused.own_words else None
+    return int(begins_with_digit(refused.own_words)) if refused.own_words else None
 
 
 def part_of_place(refused: Refused) -> Optional[int]:
     """A line out of its order, behind `begin`, or given twice; or a run line before `begin`."""
     word = refused.own_words[0] if refused.own_words else ""
     earlier = [words[0] for _number, words in refused.before() if words]
-    if word[:1].isdigit() or word == "dump":
+    if begins_with_digit(refused.own_words) or word == "dump":
         return 3
     if "begin" in earlier:
         return 1
@@ -196,7 +194,7 @@ def rule_of_entry(formats: str, refused: Refused) -> Optional[str]:
     order = next((number_in(words, 1) for _number, words in refused.before() if words[:1] == ["order"]), 18)
     value = number_in(["", index], 1)
     before = [words for _number, words in refused.before() if words[:1] == ["entry"]]
-    if value is None or order is None or len(rules) != 7:
+    if value is None or order is None or order not in ORDERS or len(rules) != 7:
         return None
     if layout not in ("old", "new"):
         return rules[0]
@@ -239,7 +237,7 @@ def form_of(formats: str, refused: Refused) -> Optional[str]:
         if refused.line.split()[:1] == ["shared"]:
             return shared
     words = refused.own_words
-    is_run_line = bool(words) and words[0][0].isdigit()
+    is_run_line = begins_with_digit(words)
     form = forms.get(words[is_run_line] if len(words) > is_run_line else "", beginnings(forms))
     return f"a partition's number, 0 to 7, and then {form}" if refused.command == "set" else form
 
@@ -261,7 +259,7 @@ def order_of_lines(formats: str) -> str:
 def nearest_words(formats: str, refused: Refused) -> Optional[str]:
     """The words of a line that the refused one resembles."""
     forms, words = forms_of(formats), refused.own_words
-    is_run_line = bool(words) and words[0][0].isdigit()
+    is_run_line = begins_with_digit(words)
     known = [word for word, form in forms.items() if form.startswith("C ") == is_run_line]
     given = words[is_run_line] if len(words) > is_run_line else ""
     close = get_close_matches(given, known, 1)
@@ -276,15 +274,17 @@ def hint_of_word(formats: str, refused: Refused) -> Optional[str]:
     if refused.command != "set" and words == ["replies"]:
         return "a trace, a line `replies` and replies are an input of papr check"
     settings = [word for word, form in forms_of(formats).items() if not form.startswith("C ")]
-    is_of_partition = len(words) > 1 and words[0].isdigit() and words[1] in settings
-    if refused.command != "set" and (words[0] == "shared" or is_of_partition):
+    is_of_partition = len(words) > 1 and number(words[0]) is not None and words[1] in settings
+    if refused.command != "set" and (words[:1] == ["shared"] or is_of_partition):
         return "this looks like a set of partitions, an input of papr set"
     return nearest_words(formats, refused)
 
 
 def hint_of_ascii(_formats: str, refused: Refused) -> Optional[str]:
     """Which byte it is."""
-    at = next(at for at, it in enumerate(refused.line) if it != "\t" and not " " <= it <= "~")
+    at = next((at for at, it in enumerate(refused.line) if it != "\t" and not " " <= it <= "~"), None)
+    if at is None:
+        return None
     if refused.line.startswith(A_MARK):
         return "the line begins with a byte-order mark, which has to be taken out"
     also = "; remarks are ASCII too" if refused.line.lstrip().startswith("#") else ""
@@ -299,7 +299,7 @@ def hint_of_count(_formats: str, refused: Refused) -> Optional[str]:
 
 def hint_of_number(_formats: str, refused: Refused) -> Optional[str]:
     """Which word it is, where just one can be meant."""
-    behind = refused.own_words[2 if refused.own_words[0][0].isdigit() else 1 :]
+    behind = refused.own_words[2 if begins_with_digit(refused.own_words) else 1 :]
     others = ("priv", "user", "old", "new")
     wrong = [word for word in behind if number_in([word], 0) is None and word not in others]
     return f"the word is `{wrong[0]}`" if wrong else None

@@ -5,18 +5,19 @@ from typing import Iterable, Iterator
 from common import Bad
 from papr import BadReplies, replies
 from papr.records import CHANGED, REFERENCED
-from papr.replies import CHANGES, COMMIT, RECEIPT, TABLE, Receipt, Reply, Shown
+from papr.replies import CHANGES, COMMIT, TABLE, Mark, Receipt, Reply, Shown, mark_of
 
 __all__ = [
     "CHANGED",
     "CHANGES",
     "COMMIT",
-    "RECEIPT",
     "REFERENCED",
     "TABLE",
+    "Mark",
     "Receipt",
     "Reply",
     "Shown",
+    "mark_of",
     "replies_of",
     "reply_of",
 ]

@@ -1,9 +1,12 @@
 """Pictures as SVG: elements on a sheet, texts, and marks that tell apart without colour."""
 
+import re
 import xml.etree.ElementTree as ET
 from typing import TextIO
 
 WIDEST = 1_600  # pixels
+# Characters that XML has no way to write.
+UNWRITABLE = re.compile(r"[^\t\n\r\x20-\ud7ff\ue000-\ufffd\U00010000-\U0010ffff]")
 
 # Colours that stay apart for the colour-blind (Okabe and Ito's).
 GREEN, RED, BLUE, ORANGE, VIOLET, SKY = (
@@ -36,7 +39,7 @@ class Sheet:
         """A new element; underscores in names stand for hyphens."""
         named = {k.rstrip("_").replace("_", "-"): str(v) for k, v in attributes.items()}
         element = ET.SubElement(self.root, tag, named)
-        element.text = text or None
+        element.text = writable(text) or None
         return element
 
     def text(self, words: str, x: float, y: float, kind: str = "", **more: object) -> None:
@@ -63,6 +66,11 @@ class Sheet:
         out.write("\n")
 
 
+def writable(words: str) -> str:
+    """Words in which a character that XML can't write stands as its escape in Python."""
+    return UNWRITABLE.sub(lambda found: found[0].encode("unicode_escape").decode("ascii"), words)
+
+
 def counted(count: int, word: str) -> str:
     """A count with its word, of which there may be one."""
     return f"{count:,} {word}" if count == 1 else f"{count:,} {word}s"
@@ -70,4 +78,4 @@ def counted(count: int, word: str) -> str:
 
 def tooltip(element: ET.Element, words: str) -> None:
     """Words that a browser shows where the pointer rests on the element."""
-    ET.SubElement(element, "title").text = words
+    ET.SubElement(element, "title").text = writable(words)

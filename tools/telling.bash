@@ -42,6 +42,7 @@ make a trace
 look at a run
   why          why is a trace refused, and what is expected instead
   bad-line     find the first line whose reply is wrong
+  find-order   judge replies without receipts, of any hypervisor
   decode       doublewords, entries, receipts and replies in words
   receipts     as a table: CSV, JSON, SQLite
   history      a picture of one entry
@@ -56,7 +57,7 @@ END
 
 # help_of COMMAND: one of the program's.
 help_of() {
-    local output='  -o, --output FILE   write there, whole or not at all (default: standard output)'
+    local output='  -o, --output FILE   write there, whole or not at all (default, or -: standard output)'
     case $1 in
         run) cat <<END ;;
 usage: papr run [-o FILE] [TRACE]
@@ -198,7 +199,7 @@ show() {
 progress() {
     local bytes=0 size=
     if [ -n "$is_copied" ]; then
-        bytes=$(wc -c <"$again")
+        bytes=$(wc -c 2>/dev/null <"$again")
     elif [ -f "$again" ]; then
         size=$(wc -c <"$again")
         { read -r -u 3 _ bytes 3<"/proc/$$/fdinfo/0"; } 2>/dev/null
@@ -220,7 +221,7 @@ megabytes() {
 refusal() {
     if [ -n "$part" ]; then
         head -n 1 -- "$part"
-    elif [ -n "$again" ]; then
+    elif [ -e "$again" ]; then
         read_again | "$program" "$@" 2>/dev/null | head -n 1
     fi
 }
@@ -231,7 +232,7 @@ explain() {
     told=$(refusal "$@")
     told=${told#papr: }
     say "$name: ${told:-refused, for the reason on standard output}"
-    if [[ $told = line* ]] && [ -n "$again" ] && command -v python3 >/dev/null; then
+    if [[ $told = line* ]] && [ -e "$again" ] && command -v python3 >/dev/null; then
         read_again | "$tools/why" --known "$told" --under "$1" - >&2
     fi
 }

@@ -4,12 +4,13 @@ from argparse import ArgumentTypeError
 from dataclasses import dataclass
 from typing import Optional
 
-from common import read_number
+from numerals import read_number
+from papr import numbers
 
 MOST_LINES, MOST_BYTES = 2**17, 2**24
 MOST_QUIET, MOST_DUMPS = 256, 16
-MOST_ENTRIES = 2**18  # of the largest table, of order 22
-ORDERS = range(18, 23)
+MOST_ENTRIES, ORDERS = numbers.ENTRIES, numbers.ORDERS
+DIGITS = "0123456789"
 
 PREPARE, COMMIT = "H_RESIZE_HPT_PREPARE", "H_RESIZE_HPT_COMMIT"
 RESIZES = {0x36C: PREPARE, 0x370: COMMIT}
@@ -55,15 +56,17 @@ def read_order(word: str) -> int:
 
 def number_of(words: list[str], place: int) -> Optional[int]:
     """The number at a place of a line: 0 where no word is there, and nothing where it isn't one."""
-    try:
-        return read_number(words[place]) if place < len(words) else 0
-    except ArgumentTypeError:
-        return None
+    return numbers.number(words[place]) if place < len(words) else 0
+
+
+def begins_with_digit(words: list[str]) -> bool:
+    """Whether a line begins as one with a number does, be it one or not."""
+    return bool(words) and words[0][0] in DIGITS
 
 
 def is_run_line(words: list[str]) -> bool:
     """Whether a line has a reply: it begins with a processor's number, or is a dump."""
-    return bool(words) and (words[0][0].isdigit() or words[0] == "dump")
+    return begins_with_digit(words) or words[:1] == ["dump"]
 
 
 def call_of(

@@ -8,8 +8,9 @@
  * Each thread makes so many random calls and walks on a pass of its own. In the end the passes are joined and the table
  * is closed. Put in order of stamp and bits, the receipts of each entry have to be those of one caller: each shows the
  * state that the one before left, from the entry's opening to its closing state, and says what an entry in this state
- * answers. With `drop` the receipt of one change is left out, and the check has to say so. The status is 0 if all is
- * well, 1 if the check or the table says otherwise, and 2 for other arguments.
+ * answers. With `drop` the receipt of one change is left out, and the check has to say so. The last line names the
+ * machine: it is for papr's authors, if yours is no x86-64. The status is 0 if all is well, 1 if the check or the table
+ * says otherwise, and 2 for other arguments.
  */
 #include "history.h"
 
@@ -18,7 +19,9 @@
 #include <stdio.h>
 #include <stdlib.h>
 #include <string.h>
+#include <sys/utsname.h>
 #include <time.h>
+#include <unistd.h>
 
 enum { MOST_THREADS = 64, OPENING_CALLS = 64 };
 
@@ -126,6 +129,18 @@ static void say(const char *mode, uint32_t threads, double seconds)
            " times, at most %" PRIu64 " in one call\n", mode, threads, threads * calls, receipts, seconds, busy, longest);
 }
 
+/* What one tells of a run on a machine that others don't have. */
+static void say_where(const char *mode, uint32_t threads, bool is_well)
+{
+    struct utsname of;
+    uint32_t version = papr_version();
+    if (uname(&of) == 0)
+        printf("hammer of papr %u.%u.%u on %s with %ld processors, %s %s: %" PRIu32 " threads, %" PRIu64 " calls, %s: %s\n",
+               (unsigned)(version >> 16), (unsigned)(version >> 8 & 0xff), (unsigned)(version & 0xff), of.machine,
+               sysconf(_SC_NPROCESSORS_ONLN), of.sysname, of.release, threads, threads * calls, mode,
+               is_well ? "well" : "NOT WELL");
+}
+
 static bool check(uint32_t threads, bool drop)
 {
     struct log logs[MOST_THREADS];
@@ -151,6 +166,7 @@ static bool hammer(const char *mode, uint32_t threads, bool drop)
     bool is_well = close_table(threads) && (!is_checked || check(threads, drop));
     for (uint32_t i = 0; i < threads; i++)
         free(workers[i].log.made);
+    say_where(mode, threads, is_well);
     return is_well;
 }
 

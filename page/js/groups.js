@@ -1,6 +1,9 @@
 // The table as a map of its groups, by how many receipts each has, drawn as tools/run-picture draws it. Up to any line:
 // the colours are those of the whole run, so that the map only darkens as time goes on.
 
+import { countsOf } from "./histories.js";
+import { isOfTable } from "./replies.js";
+
 const [CELL, COLUMNS, ROWS] = [14, 64, 32];
 const [A_GROUP, LEAST_GROUPS] = [8, 2 ** 11]; // entries of a group, and groups of the smallest table
 const NAMED = 5;
@@ -39,6 +42,23 @@ function boundsOf(most) {
   return bounds;
 }
 
+// The places with the highest counts, and these: of as many, the one that came first.
+function highest(counts, number) {
+  let found = [];
+  let least = 0;
+  const cut = () => {
+    found = found.sort((a, b) => b[1] - a[1] || a[0] - b[0]).slice(0, number);
+    if (found.length === number) least = found[number - 1][1];
+  };
+  counts.forEach((count, place) => {
+    if (count <= least) return;
+    found.push([place, count]);
+    if (found.length === 4 * number) cut();
+  });
+  cut();
+  return found;
+}
+
 // The receipts of a run's page table, or of one partition's, by groups.
 export class Groups {
   constructor(replies, part) {
@@ -53,15 +73,12 @@ export class Groups {
 
   // How many receipts each entry has in the replies of the trace's lines up to this one.
   entriesUpTo(line) {
-    const { reply, entry, isWindow, part, of, first } = this.replies;
-    let end = entry.length;
-    if (line !== Infinity) {
-      const beyond = of.findIndex((it) => it > line);
-      end = beyond < 0 ? end : first[beyond];
-    }
-    const counts = new Uint32Array(highestOf(entry) + 1);
-    for (let at = 0; at < end; at += 1) {
-      if (isWindow[reply[at]] === 0 && part[reply[at]] === this.part) counts[entry[at]] += 1;
+    if (line === Infinity) return countsOf(this.replies, this.part);
+    const { reply, entry, part, of, span } = this.replies;
+    const counts = new Uint32Array(span);
+    for (let at = 0; at < entry.length; at += 1) {
+      const isCounted = of[reply[at]] <= line && part[reply[at]] === this.part && isOfTable(this.replies, at);
+      if (isCounted) counts[entry[at]] += 1;
     }
     return counts;
   }
@@ -84,11 +101,7 @@ export class Groups {
 
   // The busiest groups with their counts: of as many, the one that came first.
   busiest(counts) {
-    const found = [];
-    counts.forEach((count, group) => {
-      if (count > 0) found.push([group, count]);
-    });
-    return found.sort((a, b) => b[1] - a[1] || a[0] - b[0]).slice(0, NAMED);
+    return highest(counts, NAMED);
   }
 
   // The map at a line, with the cells of the chosen entries ringed.
@@ -142,16 +155,6 @@ export class Groups {
 
   // The page table's entries with the most receipts, up to a number.
   busiestEntries(number) {
-    const found = [];
-    this.entriesUpTo(Infinity).forEach((count, entry) => {
-      if (count > 0) found.push([entry, count]);
-    });
-    return found.sort((a, b) => b[1] - a[1] || a[0] - b[0]).slice(0, number);
+    return highest(this.entriesUpTo(Infinity), number);
   }
-}
-
-function highestOf(entries) {
-  let highest = 0;
-  for (let at = 0; at < entries.length; at += 1) if (entries[at] > highest) highest = entries[at];
-  return highest;
 }

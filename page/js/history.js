@@ -259,7 +259,8 @@ function legend(receipts, hasUnknown, width, top) {
   return [`<g class="legend">${out}</g>`, y + LEGEND_ROW];
 }
 
-// The picture as SVG, of at most MOST_COLUMNS receipts; the column of the selected line is marked.
+// The picture of at most MOST_COLUMNS receipts, as parts that stand below each other: a band each, and the legend. The
+// column of the selected line is marked. A part has a size, so that a browser can leave out what isn't seen.
 export function drawHistory(receipts, selected) {
   const bands = bandsOf(receipts);
   const columns = Math.max(...bands.map((parts) => {
@@ -268,15 +269,20 @@ export function drawHistory(receipts, selected) {
   }));
   const width = Math.max(NARROWEST, middle(columns) + RIGHT);
   const cpus = [...new Set(receipts.map(({ cpu }) => cpu))].sort((a, b) => a - b);
-  let [end, drawn] = [HEAD, ""];
+  const drawn = [];
+  let end = HEAD;
   for (const parts of bands) {
     const band = new Band(parts, cpus, end);
-    drawn += band.draw(selected);
+    drawn.push(partOf(band.draw(selected), width, end, band.end));
     end = band.end;
   }
   const spans = bands.flatMap((parts) => parts.flatMap((part) => part.spans));
   const hasUnknown = spans.some(({ valid, bits }) => valid === null || bits === null);
   const [marks, height] = legend(receipts, hasUnknown, width, end + 10);
-  const sizes = `width="${width}" height="${height}" viewBox="0 ${HEAD} ${width} ${height - HEAD}"`;
-  return `<svg ${sizes} role="img">${drawn}${marks}</svg>`;
+  return [...drawn, partOf(marks, width, end, height)];
+}
+
+function partOf(drawn, width, top, end) {
+  const sizes = `width="${width}" height="${end - top}" viewBox="0 ${top} ${width} ${end - top}"`;
+  return { width, height: end - top, svg: `<svg ${sizes} role="img">${drawn}</svg>` };
 }

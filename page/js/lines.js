@@ -6,9 +6,14 @@ const decoder = new TextDecoder();
 
 export class Lines {
   // The bytes, and the place of each line's first byte with one more behind the last line.
-  constructor(bytes, starts = startsOf(bytes)) {
+  constructor(bytes = new Uint8Array(0), starts = startsOf(bytes)) {
     this.bytes = bytes;
     this.starts = starts;
+  }
+
+  // Lines as another thread gave them.
+  static of({ bytes, starts }) {
+    return new Lines(bytes, starts);
   }
 
   get count() {
@@ -27,13 +32,15 @@ export class Lines {
 // A line ends at LF or at the end of the bytes; behind the last LF there is no line.
 function startsOf(bytes) {
   let count = 0;
-  for (let at = bytes.indexOf(LF); at >= 0; at = bytes.indexOf(LF, at + 1)) count += 1;
+  for (let at = 0; at < bytes.length; at += 1) if (bytes[at] === LF) count += 1;
   const isEnded = bytes.length === 0 || bytes[bytes.length - 1] === LF;
   const starts = new Uint32Array(count + (isEnded ? 1 : 2));
   let place = 0;
-  for (let at = bytes.indexOf(LF); at >= 0; at = bytes.indexOf(LF, at + 1)) {
-    place += 1;
-    starts[place] = at + 1;
+  for (let at = 0; at < bytes.length; at += 1) {
+    if (bytes[at] === LF) {
+      place += 1;
+      starts[place] = at + 1;
+    }
   }
   starts[starts.length - 1] = bytes.length;
   return starts;

@@ -1,32 +1,40 @@
 // The page: what is chosen, opened and changed, what the program is called with, and what it answers.
 
-import { commandFor, fromBase64, gunzip, unpacked } from "./files.js";
+import { fromBase64, gunzip } from "./files.js";
 import { Lines } from "./lines.js";
 import { Field, Panes } from "./panes.js";
 import { Decoder } from "./decoder.js";
 import { EntryReader, Pictures } from "./pictures.js";
-import { NOT_GOOD, NO_MEMORY, REFUSED, STATUSES } from "./program.js";
-import { Refusals } from "./refusals.js";
+import { saidOf, saidOfSection } from "./outcomes.js";
+import { NOT_GOOD, REFUSED } from "./program.js";
+import { Refusals, refusalIn } from "./refusals.js";
 import { receiptAt, touches } from "./replies.js";
-import { alignedRows, looseRows } from "./rows.js";
+import { AlignedRows, LooseRows } from "./rows.js";
 import { Runner, STOPPED } from "./runner.js";
-import { cutBehind, judgedParts, judgedText, sectionOf } from "./traces.js";
+import { cutBehind, imageLine } from "./traces.js";
 import { serveWorker } from "./worker.js";
 
-const NOTHING = new Uint8Array(0);
+const NOTHING = new Lines();
 const SAVED = { run: "run.replies", check: "judged.replies", set: "set.replies", drill: "drill.summary" };
-const NO_PLACE =
-  "The newer layout can't hold this entry: doubleword 0 has a bit of 0x3FF0000000000000, or doubleword 1 one " +
-  "of 0x0C00000000000000.";
+const MOST_LINE = 2_000; // bytes of a reply that is looked at
+const MOST_CHIPS = 64; // a reply of the program has at most sixteen receipts
 const by = (id) => document.getElementById(id);
 const counted = (count, word) => `${count.toLocaleString("en")} ${word}${count === 1 ? "" : "s"}`;
-const decoded = (bytes) => new TextDecoder().decode(bytes);
+
+// What the address names behind the page, or nothing, if it isn't well formed.
+function fragment() {
+  try {
+    return decodeURIComponent(location.hash.slice(1));
+  } catch {
+    return "";
+  }
+}
 
 class Page {
   constructor(module, decoder, data, source) {
     this.examples = data.examples;
     this.refusals = new Refusals(data.formats);
-    this.runner = new Runner(module, source, (stage, part) => this.tellStage(stage, part));
+    this.runner = new Runner(module, source);
     this.panes = new Panes((line, reply, below) => this.chooseRow(line, reply, below));
     const mark = (part, entry) => this.panes.mark((reply) => touches(this.replies, reply, part, entry));
     this.pictures = new Pictures((line) => this.goTo(line), mark);
@@ -35,8 +43,9 @@ class Page {
     this.repliesField = new Field("replies", by("replies"));
     // `answered` are the replies of the last run of this trace, or null; they are judged until the user has others.
     Object.assign(this, { trace: NOTHING, judged: NOTHING, written: null, replies: null, answered: null, turn: 0 });
-    this.traceField.changed = (bytes) => this.change({ trace: bytes, answered: null });
-    this.repliesField.changed = (bytes) => this.change({ judged: bytes });
+    this.answer = null;
+    this.traceField.changed = (bytes) => this.change({ trace: new Lines(bytes), answered: null });
+    this.repliesField.changed = (bytes) => this.change({ judged: new Lines(bytes) });
     this.listen();
   }
 
@@ -92,7 +101,7 @@ class Page {
     by("right-title").textContent = { check: "Replies to judge", drill: "Summary", set: "Replies" }[command]
       ?? (command.startsWith("image") ? "Table at the end" : "Replies");
     if (command !== "check") this.repliesField.open(false);
-    else if (this.judged.length === 0 && this.answered !== null) this.judged = this.answered;
+    else if (this.judged.bytes.length === 0 && this.answered !== null) this.judged = this.answered;
     this.repliesField.take(this.judged);
     this.showGiven();
   }
@@ -105,56 +114,57 @@ class Page {
 
   // Shows what is given, before it is run.
   showGiven() {
-    const trace = new Lines(this.trace);
-    this.lines = trace;
-    const text = this.command === "check" ? new Lines(this.judged) : null;
-    this.panes.show(trace, text, looseRows(trace.count, text?.count ?? 0));
+    this.giveUp();
+    const text = this.command === "check" ? this.judged : NOTHING;
+    this.panes.show(this.trace, text, new LooseRows(this.trace.count, text.count));
     this.replies = null;
     this.pictures.take(null, 0);
     by("left-title").textContent = this.command === "set" ? "Set of partitions" : "Trace";
-    by("left-size").textContent = counted(trace.count, "line");
+    by("left-size").textContent = counted(this.trace.count, "line");
     by("right-size").textContent = "";
     by("line").hidden = true;
-    this.tell("", "", []);
+    this.tell({ kind: "", words: "", told: [] });
   }
 
-  async openBytes(name, bytes, command) {
-    const parts = command === "check" ? judgedParts(bytes) : null;
-    this.trace = parts ? parts[0] : bytes;
-    Object.assign(this, { judged: parts ? parts[1] : NOTHING, written: null, answered: null });
-    by("name").textContent = name;
-    this.traceField.take(this.trace);
-    this.choose(command);
+  // Has the worker open a file. One that is dropped on the right side is a text to judge.
+  async open(name, file, command = null, isReplies = false) {
+    const turn = this.begin("opening");
+    let opened = null;
+    try {
+      opened = await this.runner.open({ name, file, command: isReplies ? "run" : command });
+    } catch (error) {
+      if (turn === this.turn) this.tell({ kind: "bad", words: `${name}: ${error.message}`, told: [] });
+    }
+    if (turn !== this.turn) return;
+    this.end();
+    if (opened === null) return;
+    const [trace, judged] = [Lines.of(opened.trace), Lines.of(opened.judged)];
+    if (isReplies) this.judged = trace;
+    else this.give(name, trace, judged);
+    this.choose(isReplies ? "check" : opened.command);
     await this.run();
+  }
+
+  give(name, trace, judged) {
+    Object.assign(this, { trace, judged, written: null, answered: null });
+    by("name").textContent = name;
+    this.traceField.take(trace);
   }
 
   async openExample(name, command = null) {
     by("example").value = name;
-    const bytes = await unpacked(fromBase64(this.examples[name]));
-    await this.openBytes(name, bytes, command ?? commandFor(name, bytes));
+    await this.open(name, new Blob([fromBase64(this.examples[name])]), command);
   }
 
-  // A file that is dropped on the right side is a text to judge.
   async openFile(file, isReplies = false) {
     if (!file) return;
-    try {
-      const bytes = await unpacked(new Uint8Array(await file.arrayBuffer()));
-      if (isReplies) {
-        this.judged = bytes;
-        this.choose("check");
-        await this.run();
-      } else {
-        by("example").value = "";
-        await this.openBytes(file.name, bytes, commandFor(file.name, bytes));
-      }
-    } catch (error) {
-      this.tell("bad", `${file.name}: ${error.message}`, []);
-    }
+    if (!isReplies) by("example").value = "";
+    await this.open(file.name, file, null, isReplies);
   }
 
   // #EXAMPLE/COMMAND opens an example and runs it; #drill SEED LINES runs a drill; a third part is a line.
   async openHash() {
-    const [name, command, line] = decodeURIComponent(location.hash.slice(1)).split("/");
+    const [name, command, line] = fragment().split("/");
     const drill = /^drill ([0-9]+) ([0-9]+)$/.exec(name);
     if (drill) {
       [by("seed").value, by("lines").value] = [drill[1], drill[2]];
@@ -172,36 +182,48 @@ class Page {
   // ---- what is run
 
   async run() {
-    const { command } = this;
+    const { command, trace, judged } = this;
     const words = command.split(" ");
     if (command === "drill") words.push(by("seed").value.trim(), by("lines").value.trim());
-    const isCheck = command === "check";
     for (const field of [this.traceField, this.repliesField]) field.open(false);
-    const input = { drill: NOTHING, check: judgedText(this.trace, this.judged) }[command] ?? this.trace;
-    // A run that is still on its way is stopped, and shows nothing.
-    if (document.body.dataset.state === "running") this.runner.start();
-    this.turn += 1;
-    const { turn } = this;
-    this.begin();
+    const turn = this.begin("running");
+    document.body.dataset.pictures = "waiting";
+    this.answer = null;
+    const told = ({ answer, part }) => {
+      if (turn !== this.turn) return;
+      if (answer) this.showAnswer(command, answer);
+      else by("progress").value = part;
+    };
+    const [given, other] = [command === "drill" ? NOTHING : trace, command === "check" ? judged : NOTHING];
     try {
-      const outcome = await this.runner.call(words, input, isCheck ? this.judged : null);
+      const outcome = await this.runner.call({ command, words, trace: given, judged: other }, told);
       if (turn === this.turn) this.show(command, outcome);
     } catch (error) {
-      const words = error.message === STOPPED ? STOPPED : `the program didn't end: ${error.message}`;
-      if (turn === this.turn) this.tell("bad", words, []);
+      if (turn === this.turn) this.tellError(error);
     }
-    if (turn === this.turn) this.end();
+    if (turn !== this.turn) return;
+    this.end();
+    await this.draw(turn);
   }
 
-  begin() {
+  // A job that is still on its way is ended, and shows nothing.
+  giveUp() {
+    this.turn += 1;
+    if (document.body.dataset.state !== "running") return;
+    this.runner.start();
+    this.end();
+  }
+
+  begin(label) {
+    this.giveUp();
     document.body.dataset.state = "running";
     by("progress").removeAttribute("value");
-    by("progress-label").textContent = "running";
+    by("progress-label").textContent = label;
     const began = performance.now();
-    clearInterval(this.clock);
     this.clock = setInterval(() => {
       by("elapsed").textContent = `${((performance.now() - began) / 1000).toFixed(1)} s`;
     }, 100);
+    return this.turn;
   }
 
   end() {
@@ -210,77 +232,71 @@ class Page {
     document.body.dataset.state = "done";
   }
 
-  tellStage(stage, part) {
+  // The status is told as soon as it is known. What is shown of the text comes after it, and takes nothing of it back.
+  showAnswer(command, answer) {
+    this.answer = answer;
+    const { status, ms, memory, length } = answer;
+    Object.assign(document.body.dataset, { status, ms: ms.toFixed(1), memory });
+    by("took").textContent = `in ${ms.toFixed(ms < 10 ? 1 : 0)} ms, ${counted(length, "byte")} written`;
     by("progress-label").textContent = "reading the replies";
-    if (part !== undefined) by("progress").value = part;
+    this.tell(saidOf(command, answer, this.refusals, this.trace));
   }
 
-  show(command, { status, ms, memory, written, given }) {
-    const trace = new Lines(this.trace);
-    const text = new Lines(written.text, written.starts);
-    Object.assign(this, { lines: trace, written: written.text, replies: given?.replies ?? written.replies });
+  show(command, outcome) {
+    const { replies, section } = outcome;
+    const [{ status, said }, written] = [this.answer, Lines.of(outcome.written)];
+    Object.assign(this, { written, replies });
     if (command === "run") {
       // What is judged next are these replies, unless the user has put others there.
       if (this.judged === this.answered) this.judged = NOTHING;
-      this.answered = status === 0 ? written.text : null;
+      this.answered = status === 0 ? written : null;
     }
-    Object.assign(document.body.dataset, { status, ms: ms.toFixed(1), memory });
-    by("took").textContent = `in ${ms.toFixed(ms < 10 ? 1 : 0)} ms, ${counted(written.text.length, "byte")} written`;
-    if (status === REFUSED) this.showRefusal(command, trace, text);
-    else if (command === "check" && given) this.showVerdict(trace, given, decoded(written.text), status);
-    else {
-      const rows = this.replies ? alignedRows(trace.count, this.replies.of) : looseRows(trace.count, text.count);
-      this.panes.show(command === "drill" ? new Lines(NOTHING) : trace, text, rows);
-      const isBad = status === NO_MEMORY || status === 1;
-      this.tell(isBad ? "bad" : "good", `${status}: ${STATUSES[status]}`, isBad ? [decoded(written.text)] : []);
-    }
-    by("right-size").textContent = counted(command === "check" && given ? given.starts.length - 1 : text.count, "line");
-    this.pictures.take(this.replies, trace.count);
-  }
-
-  // The refused line is marked at its place, and what the program wrote stands beside it.
-  showRefusal(command, trace, text) {
-    const refusal = this.refusals.read(decoded(text.bytes));
-    if (refusal?.line === undefined) {
-      this.panes.show(trace, text, looseRows(trace.count, text.count));
-      this.tell("bad", `2: refused, entry ${refusal?.entry}`, [NO_PLACE]);
-      return;
-    }
-    const isSet = command === "set";
-    this.panes.show(trace, text, alignedRows(trace.count, Uint32Array.of(refusal.line)), { refused: refusal.line });
-    const told = [`rule: ${this.refusals.rule(refusal.reason, isSet)}`];
-    if (refusal.line >= 1 && refusal.line <= trace.count) {
-      told.push(`form: ${this.refusals.form(trace.text(refusal.line - 1), isSet)}`);
-      this.goTo(refusal.line);
-    }
-    this.tell("bad", `2: line ${refusal.line} is refused: ${refusal.reason}`, told);
-  }
-
-  // The lines of the section that no good run explains are marked.
-  showVerdict(trace, given, verdict, status) {
-    const text = new Lines(given.text, given.starts);
-    const rows = alignedRows(trace.count, given.replies.of);
-    if (status !== NOT_GOOD) {
-      this.panes.show(trace, text, rows);
-      this.tell("good", `${status}: ${verdict.trim()}`, ["The text is that of a good run of this trace."]);
-      return;
-    }
-    const number = Number(/[0-9]+/.exec(verdict));
-    const section = sectionOf(trace, number);
-    this.panes.show(trace, text, rows, section ? { section } : {});
-    const where = section
-      ? `Up to the end of section ${number}, lines ${section[0]} to ${section[1]}, no good run writes this text.`
-      : "All sections are good, but the text doesn't end after the last one.";
-    this.tell("bad", `${status}: ${verdict.trim()}`, [where]);
+    const trace = command === "drill" ? NOTHING : this.trace;
+    const text = command === "check" && replies ? this.judged : written;
+    const rows = outcome.rows ? new AlignedRows(outcome.rows) : new LooseRows(trace.count, text.count);
+    const refused = status === REFUSED ? refusalIn(said)?.line : undefined;
+    this.panes.show(trace, text, rows, { refused, section });
+    by("right-size").textContent = counted(text.count, "line");
+    if (refused >= 1) this.goTo(refused);
+    if (command === "check" && status === NOT_GOOD) this.tellMore(saidOfSection(said, section));
     if (section) this.scrollTo(section[0]);
   }
 
-  tell(kind, words, told) {
+  // Draws after the lists have been seen. What goes wrong here is told beside the pictures alone.
+  async draw(turn) {
+    const { pictures } = this;
+    try {
+      for (const step of [() => pictures.take(this.replies, this.trace.count), () => pictures.begin()]) {
+        await new Promise((resolve) => setTimeout(resolve)); // the page answers between them
+        if (turn !== this.turn) return;
+        step();
+      }
+      document.body.dataset.pictures = "drawn";
+    } catch (error) {
+      pictures.fail(error.message);
+      document.body.dataset.pictures = "failed";
+    }
+  }
+
+  tell({ kind, words, told }) {
     by("status").className = kind;
     by("status").textContent = words;
     if (kind === "") by("took").textContent = "";
-    by("told").hidden = told.length === 0;
-    by("told").replaceChildren(...told.map((it) => Object.assign(document.createElement("p"), { textContent: it })));
+    by("told").replaceChildren();
+    by("told").hidden = true;
+    for (const sentence of told) this.tellMore(sentence);
+  }
+
+  tellMore(sentence) {
+    by("told").append(Object.assign(document.createElement("p"), { textContent: sentence }));
+    by("told").hidden = false;
+  }
+
+  // An answer that the program has given stays, whatever became of its text.
+  tellError({ message }) {
+    this.replies = null;
+    if (this.answer !== null) this.tellMore(`The lists aren't shown: ${message}.`);
+    else this.tell({ kind: "bad", words: message === STOPPED ? STOPPED : `the program didn't end: ${message}`, told: [] });
   }
 
   // ---- what is looked at
@@ -297,33 +313,33 @@ class Page {
 
   // A row was chosen: its line, its reply and its receipts are shown, and their entries marked.
   chooseRow(line, reply, below) {
-    const textOf = (lines, place) => (place > 0 ? lines.text(place - 1) : "");
-    const [words, answer] = [textOf(this.panes.trace, line), textOf(this.panes.text, reply)];
+    const textOf = (place) => (place > 0 ? this.panes.text.text(place - 1, MOST_LINE) : "");
+    const words = line > 0 ? this.panes.trace.text(line - 1) : "";
     const receipts = this.replies !== null && reply > 0 ? this.receiptsOf(reply - 1) : [];
     by("line").hidden = line === 0;
     by("line-number").textContent = line > 0 ? `Line ${line}` : "";
     by("line-words").textContent = words.slice(0, 500);
-    by("line-reply").textContent = answer.split(" |")[0];
+    by("line-reply").textContent = textOf(reply).split(" |")[0];
     by("line-receipts").replaceChildren(...receipts.map((receipt) => this.chip(receipt)));
-    const isOfTable = receipts.some((it) => !it.isWindow);
+    const isOfTable = receipts.some((it) => it.isOfTable);
     by("behind").hidden = !(this.command === "run" && line > 0 && isOfTable);
-    this.reader.offer(words, textOf(this.panes.text, below));
+    this.reader.offer(words, textOf(below));
     if (receipts.length > 0 || line > 0) this.pictures.chooseLine(line, receipts, this.replies?.part[reply - 1]);
   }
 
   receiptsOf(reply) {
     const { first } = this.replies;
     const [from, to] = [first[reply], first[reply + 1]];
-    return Array.from({ length: to - from }, (_, at) => receiptAt(this.replies, from + at));
+    return Array.from({ length: Math.min(MOST_CHIPS, to - from) }, (_, at) => receiptAt(this.replies, from + at));
   }
 
   chip(receipt) {
-    const { entry, stamp, bits, answer, isWindow, isChange } = receipt;
+    const { entry, stamp, bits, answer, isWindow, isOfTable, isChange } = receipt;
     const chip = document.createElement("button");
     chip.className = isChange ? "chip change" : "chip";
     chip.textContent = `0x${entry.toString(16)} ${answer}`;
     chip.title = `stamp ${stamp}, R ${bits >> 1}, C ${bits & 1} before${isWindow ? "; an entry of a DMA window" : ""}`;
-    chip.disabled = isWindow;
+    chip.disabled = !isOfTable;
     chip.addEventListener("click", () => this.pictures.chooseEntry(entry));
     return chip;
   }
@@ -331,11 +347,11 @@ class Page {
   // The entry that is looked at, as the table has it behind the chosen line: the image of the trace up to there.
   async readBehind() {
     const [line, { entry }] = [this.pictures.line, this.pictures];
-    const cut = cutBehind(this.lines, line);
-    const { status, written } = await this.runner.call(["image", "old"], cut);
+    const task = { command: "image", words: ["image", "old"], trace: cutBehind(this.trace, line), judged: NOTHING };
+    const { written } = await this.runner.call(task, () => {});
     const name = `0x${entry.toString(16)}`;
-    const found = status === 0 ? decoded(written.text).split("\n").find((it) => it.startsWith(`${name} `)) : undefined;
-    if (found === undefined) by("entry-from").textContent = `entry ${name} isn't valid after line ${line}`;
+    const found = imageLine(Lines.of(written), entry);
+    if (found === null) by("entry-from").textContent = `entry ${name} isn't valid after line ${line}`;
     else {
       this.reader.offer("", found);
       by("entry-from").textContent = `entry ${name} after line ${line}, as image old has it`;
@@ -343,10 +359,10 @@ class Page {
   }
 
   save() {
-    const bytes = this.command === "check" ? this.judged : this.written;
-    if (bytes === null) return;
+    const lines = this.command === "check" ? this.judged : this.written;
+    if (lines === null) return;
     const link = document.createElement("a");
-    link.href = URL.createObjectURL(new Blob([bytes], { type: "text/plain" }));
+    link.href = URL.createObjectURL(new Blob([lines.bytes], { type: "text/plain" }));
     link.download = SAVED[this.command] ?? "table.image";
     link.click();
     setTimeout(() => URL.revokeObjectURL(link.href), 1_000);

@@ -3,13 +3,15 @@
 
 import { Lines } from "./lines.js";
 import { List } from "./list.js";
-import { looseRows } from "./rows.js";
+import { LooseRows } from "./rows.js";
 
 const ROW_HEIGHT = 20;
 const MOST_SHOWN = 2_000; // bytes of a line
-const MOST_EDITED = 2_000_000; // bytes of a text that a field holds
+// Of a text that a field holds: a browser lays out all of it at once, and is soon slow at it.
+const MOST_EDITED = 2 ** 19; // bytes
+const MOST_EDITED_LINES = 2 ** 12;
 const strict = new TextDecoder("utf-8", { fatal: true, ignoreBOM: true });
-const NO_LINES = new Lines(new Uint8Array(0));
+const NO_LINES = new Lines();
 
 const by = (id) => document.getElementById(id);
 const span = (kind, text) => {
@@ -27,7 +29,7 @@ export class Panes {
       new List(by(id), ROW_HEIGHT, { fill: fill.bind(this), chosen: (row) => this.choose(row, id === "replies") });
     this.left = list("trace", this.fillLeft);
     this.right = list("replies", this.fillRight);
-    Object.assign(this, { chosen, trace: NO_LINES, text: NO_LINES, rows: looseRows(0, 0), marks: {} });
+    Object.assign(this, { chosen, trace: NO_LINES, text: NO_LINES, rows: new LooseRows(0, 0), marks: {} });
     this.touches = () => false;
     const follow = (from, to) => from.element.addEventListener("scroll", () => {
       if (!this.rows.isAligned) return;
@@ -44,14 +46,13 @@ export class Panes {
   }
 
   choose(row, isRight = false) {
-    const { left, right, isAligned } = this.rows;
-    const head = this.rows.head(row);
+    const { rows } = this;
+    const head = rows.head(row);
     const [own, other] = isRight ? [this.right, this.left] : [this.left, this.right];
     own.select(row);
-    if (isAligned) other.select(row);
-    else other.select(-1);
-    if (isAligned) this.chosen(left[head], right[head], right[row]);
-    else this.chosen(isRight ? 0 : left[row], 0, isRight ? right[row] : 0);
+    other.select(rows.isAligned ? row : -1);
+    if (rows.isAligned) this.chosen(rows.left(head), rows.right(head), rows.right(row));
+    else this.chosen(isRight ? 0 : rows.left(row), 0, isRight ? rows.right(row) : 0);
   }
 
   // Marks the replies, by their places, that touch what is looked at.
@@ -61,7 +62,7 @@ export class Panes {
   }
 
   fillLeft(element, row) {
-    const line = this.rows.left[row];
+    const line = this.rows.left(row);
     this.classes(element, row);
     if (line === 0) return;
     const words = this.trace.text(line - 1, MOST_SHOWN);
@@ -69,7 +70,7 @@ export class Panes {
   }
 
   fillRight(element, row) {
-    const place = this.rows.right[row];
+    const place = this.rows.right(row);
     this.classes(element, row);
     if (place === 0) return;
     const words = this.text.text(place - 1, MOST_SHOWN);
@@ -80,10 +81,10 @@ export class Panes {
   }
 
   classes(element, row) {
-    const line = this.rows.isAligned ? this.rows.left[this.rows.head(row)] : 0;
-    const { refused, section } = this.marks;
+    const line = this.rows.line(row);
+    const { refused, section = null } = this.marks;
     element.classList.toggle("refused", refused !== undefined && line === refused);
-    element.classList.toggle("section", section !== undefined && line >= section[0] && line <= section[1]);
+    element.classList.toggle("section", section !== null && line >= section[0] && line <= section[1]);
   }
 }
 
@@ -93,28 +94,31 @@ export class Field {
     Object.assign(this, { list, field: by(`${name}-field`), toggle: by(`${name}-edit`), changed: () => {} });
     this.toggle.addEventListener("click", () => this.open(!this.isOpen));
     this.field.addEventListener("input", () => this.changed(new TextEncoder().encode(this.field.value)));
+    this.text = null;
   }
 
   get isOpen() {
     return this.toggle.getAttribute("aria-pressed") === "true";
   }
 
-  // Takes a text; one that is too long, or isn't text, is shown alone.
-  take(bytes) {
-    this.bytes = bytes;
+  // Takes lines; those that are too many, or no text, are shown alone.
+  take({ bytes, count }) {
     let text = null;
     try {
-      if (bytes.length <= MOST_EDITED) text = strict.decode(bytes);
+      if (bytes.length <= MOST_EDITED && count <= MOST_EDITED_LINES) text = strict.decode(bytes);
     } catch {
       text = null;
     }
     this.toggle.disabled = text === null || text.includes("\r");
     this.toggle.title = this.toggle.disabled ? "too long to be changed here, or no plain text" : "";
-    this.field.value = text ?? "";
-    if (this.toggle.disabled) this.open(false);
+    this.text = text ?? "";
+    this.field.value = "";
+    if (this.isOpen) this.open(!this.toggle.disabled);
   }
 
+  // The field has a text only after it was opened: it is laid out line by line.
   open(isOpen) {
+    if (isOpen && this.text !== null) [this.field.value, this.text] = [this.text, null];
     this.toggle.setAttribute("aria-pressed", String(isOpen));
     this.field.hidden = !isOpen;
     this.list.hidden = isOpen;

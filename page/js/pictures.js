@@ -2,8 +2,9 @@
 
 import { entryOf, rowsOf } from "./entry.js";
 import { Groups } from "./groups.js";
+import { changesOf, historyOf } from "./histories.js";
 import { MOST_COLUMNS, drawHistory } from "./history.js";
-import { historyOf } from "./replies.js";
+import { receiptAt } from "./replies.js";
 import { readNumber, wordsOfLine } from "./traces.js";
 
 const NAMED_ENTRIES = 60;
@@ -16,7 +17,10 @@ export class Pictures {
   constructor(goTo, marked) {
     Object.assign(this, { goTo, marked, replies: null, groups: null, part: 0, entry: null, line: null, ringed: [] });
     by("time").addEventListener("input", () => this.drawMap());
-    by("part").addEventListener("change", () => this.take(this.replies, this.lines, Number(by("part").value)));
+    by("part").addEventListener("change", () => {
+      this.take(this.replies, this.lines, Number(by("part").value));
+      this.begin();
+    });
     by("changes").addEventListener("change", () => this.drawHistory());
     by("entry").addEventListener("change", () => this.chooseWord(by("entry").value));
     by("map").addEventListener("click", (event) => this.chooseCell(event));
@@ -26,12 +30,14 @@ export class Pictures {
     });
   }
 
-  // Takes the replies of a run of so many lines; of a set one partition's, at first that of the first receipt.
+  // Takes the replies of a run of so many lines; of a set one partition's, at first that of the first receipt. The map
+  // is drawn.
   take(replies, lines, part = replies?.part[replies.reply[0] ?? 0] ?? 0) {
     Object.assign(this, { replies, lines, part, line: null, ringed: [], entry: null });
     this.groups = replies === null ? null : new Groups(replies, part);
-    const hasReceipts = replies !== null && replies.reply.some((reply) => replies.isWindow[reply] === 0);
+    const hasReceipts = replies !== null && replies.order.length > 0;
     by("pictures").hidden = !hasReceipts;
+    by("no-pictures").hidden = true;
     this.marked(part, null);
     if (!hasReceipts) return;
     this.offerParts();
@@ -41,12 +47,24 @@ export class Pictures {
     by("entries").replaceChildren(...named.map(([entry, count]) => new Option(counted(count, "receipt"), hex(entry))));
     this.drawScale();
     this.drawMap();
-    this.chooseEntry(named.length > 0 ? named[0][0] : null, false);
+    this.busiest = named.length > 0 ? named[0][0] : null;
+  }
+
+  // Shows the history of the entry with the most receipts; it is the longest picture.
+  begin() {
+    if (!by("pictures").hidden) this.chooseEntry(this.busiest, false);
+  }
+
+  // There is nothing to see, and this is why.
+  fail(words) {
+    by("pictures").hidden = true;
+    by("no-pictures").hidden = false;
+    by("no-pictures").textContent = `The pictures aren't drawn: ${words}.`;
   }
 
   // Of a set, which partition is looked at.
   offerParts() {
-    const parts = [...new Set(this.replies.part.subarray(0, this.replies.of.length))].sort((a, b) => a - b);
+    const { parts } = this.replies;
     by("part-label").hidden = parts.length < 2;
     const options = parts.map((part) => new Option(`partition ${part}`, part, false, part === this.part));
     by("part").replaceChildren(...options);
@@ -56,7 +74,7 @@ export class Pictures {
   chooseLine(line, receipts, part = this.part) {
     if (by("pictures").hidden) return;
     if (part !== this.part) this.take(this.replies, this.lines, part);
-    const own = receipts.filter((receipt) => !receipt.isWindow);
+    const own = receipts.filter((receipt) => receipt.isOfTable);
     this.line = line;
     this.ringed = [...new Set(own.map(({ entry }) => entry))];
     this.drawMap();
@@ -117,14 +135,15 @@ export class Pictures {
       by("history-label").textContent = "";
       return;
     }
-    const all = historyOf(this.replies, this.part, this.entry);
-    const chosen = by("changes").checked ? all.filter(({ isChange }) => isChange) : all;
-    const here = chosen.findIndex(({ line }) => line === this.line);
+    const { replies } = this;
+    const all = historyOf(replies, this.part, this.entry);
+    const chosen = by("changes").checked ? changesOf(replies, all) : all;
+    const here = this.line === null ? -1 : chosen.findIndex((at) => replies.of[replies.reply[at]] === this.line);
     const first = Math.max(0, Math.min(here - MOST_COLUMNS / 2, chosen.length - MOST_COLUMNS));
-    const shown = chosen.slice(first, first + MOST_COLUMNS);
+    const shown = Array.from(chosen.subarray(first, first + MOST_COLUMNS), (at) => receiptAt(replies, at));
     const words = shown.length < chosen.length ? `, of which ${counted(shown.length, "receipt")} are drawn` : "";
     by("history-label").textContent = `${counted(chosen.length, by("changes").checked ? "change" : "receipt")}${words}`;
-    by("history").innerHTML = shown.length > 0 ? drawHistory(shown, this.line) : "<p>No receipt of this entry.</p>";
+    by("history").replaceChildren(...(shown.length > 0 ? drawHistory(shown, this.line).map(elementOf) : [noReceipt()]));
     this.showColumn();
   }
 
@@ -139,6 +158,19 @@ export class Pictures {
     if (isBeside) picture.scrollLeft += column.left - frame.left - frame.width / 2;
     if (isBeyond) picture.scrollTop += column.top - frame.top - 120;
   }
+}
+
+// A part of the history's picture.
+function elementOf({ width, height, svg }) {
+  const part = document.createElement("div");
+  part.className = "part";
+  Object.assign(part.style, { width: `${width}px`, height: `${height}px` });
+  part.innerHTML = svg;
+  return part;
+}
+
+function noReceipt() {
+  return Object.assign(document.createElement("p"), { textContent: "No receipt of this entry." });
 }
 
 // The field of two doublewords, and what they mean.

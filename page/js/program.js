@@ -1,5 +1,7 @@
 // The proved program from the page's side: words and bytes in, a status and bytes out.
 
+import { MOST_INPUT } from "./limits.js";
+
 // What each status means, in a few words; the last is the call's own, and is never shown.
 export const STATUSES = [
   "done",
@@ -15,7 +17,6 @@ export const NO_MEMORY = 5;
 export const NOT_GOOD = 6;
 const NO_ROOM = 7;
 const END_BYTES = 16; // of what a call ends with: a status of four bytes, and a length of eight behind it
-const MOST_INPUT = 2 ** 24; // bytes that aren't refused
 // A reply has at most sixteen receipts. A room that is too small is answered with the one that is wanted, after all the
 // work; one that is too large costs nothing, since the memory behind a text is never touched.
 const ROOM = (length) => 65_536 + (length > MOST_INPUT ? 0 : 24 * length);

@@ -6,18 +6,18 @@ import { wordsOfLine } from "./traces.js";
 const REFUSED = /^papr: line ([0-9]+): ([a-z]+)\n?$/;
 const NO_LAYOUT = /^papr: entry (0x[0-9a-f]+): layout\n?$/;
 
+// What a refusal's text says: a line and a reason, or an entry that a layout has no place for; else null.
+export function refusalIn(text) {
+  const line = REFUSED.exec(text);
+  if (line) return { line: Number(line[1]), reason: line[2] };
+  const entry = NO_LAYOUT.exec(text);
+  return entry ? { entry: entry[1], reason: "layout" } : null;
+}
+
 // `formats` has `rules` and `setRules` (a reason and its rule), `settings` and `runLines` (a form, what is accepted).
 export class Refusals {
   constructor(formats) {
     this.formats = formats;
-  }
-
-  // What a refusal's text says: a line and a reason, or an entry that a layout has no place for; else null.
-  read(text) {
-    const line = REFUSED.exec(text);
-    if (line) return { line: Number(line[1]), reason: line[2] };
-    const entry = NO_LAYOUT.exec(text);
-    return entry ? { entry: entry[1], reason: "layout" } : null;
   }
 
   // The rule behind a reason; of a set's line also what comes beside it.

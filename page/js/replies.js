@@ -1,16 +1,23 @@
 // Replies as columns of numbers: of each line of the text which line of the trace it answers, and each receipt in it.
 // A long run has two million receipts, so no object is made for any of them.
 
+import { MOST_ENTRIES } from "./limits.js";
+
 // The answers of receipts; a receipt's column has the place in this list.
 export const ANSWERS =
   "entered taken removed protected was read notfound nomatch denied masked at worn".split(" ");
-const CHANGES = new Set(["entered", "removed", "protected", "was", "at"]);
+const IS_CHANGE = ANSWERS.map((answer) => ["entered", "removed", "protected", "was"].includes(answer));
 const ON_WINDOWS = new Set(["H_PUT_TCE", "H_GET_TCE", "dmaread", "dmawrite"]);
 const COMMIT = "H_RESIZE_HPT_COMMIT";
-const [LF, SPACE, DOT, BAR] = [10, 32, 46, 124];
+const [LF, SPACE, DOT, ZERO, BAR] = [10, 32, 46, 48, 124];
 const decoder = new TextDecoder();
 const REFERENCED = 2;
 const CHANGED = 1;
+// What a reply of the program stays far below. A text to judge may have anything.
+const MOST_HEAD = 4_096; // bytes in front of the receipts
+const MOST_CALLS = 256; // names
+const LONGEST_CALL = 40; // letters
+const MOST_NUMBER = 2 ** 32 - 1; // also stands for larger ones
 
 // Columns of numbers that are as long as each other, and grow together.
 class Columns {
@@ -38,7 +45,8 @@ class Columns {
   }
 
   done() {
-    return Object.fromEntries(this.names.map((name) => [name, this[name].slice(0, this.length)]));
+    const isFull = this.length === this.room;
+    return Object.fromEntries(this.names.map((name) => [name, isFull ? this[name] : this[name].slice(0, this.length)]));
   }
 }
 
@@ -75,14 +83,17 @@ export function readReplies(lines, isSet, told = () => {}) {
 
 class Reader {
   constructor(lines, isSet) {
-    Object.assign(this, { lines, isSet, calls: [], numbers: new Map(), tables: new Map(), part: 0 });
+    Object.assign(this, { lines, isSet, calls: [], numbers: new Map(), tables: new Map(), part: 0, parts: new Set() });
     this.replies = new Columns(OF_LINES, lines.count + 1);
     this.receipts = new Columns(OF_RECEIPTS, 4096);
     this.answers = new Map(ANSWERS.map((answer, at) => [keyOf(answer.length, answer.charCodeAt(0)), at]));
   }
 
-  numberOf(call) {
+  // The number of a call's name. The last one is that of all for which there is no other.
+  numberOf(word) {
+    const call = word.slice(0, LONGEST_CALL);
     if (!this.numbers.has(call)) {
+      if (this.calls.length === MOST_CALLS) return MOST_CALLS - 1;
       this.numbers.set(call, this.calls.length);
       this.calls.push(call);
     }
@@ -94,14 +105,17 @@ class Reader {
     const [start, end] = [starts[at], starts[at + 1]];
     let bar = start;
     while (bar < end && bytes[bar] !== BAR) bar += 1;
-    const head = decoder.decode(bytes.subarray(start, bar)).trimEnd();
+    const isReply = bytes[start] >= ZERO && bytes[start] < ZERO + 10;
+    const headEnd = isReply ? Math.min(bar, start + MOST_HEAD) : start;
+    const head = decoder.decode(bytes.subarray(start, headEnd)).trimEnd();
     const words = head.split(" ").filter((word) => word !== "");
     if (this.isSet) this.part = Number(words.shift()) || 0;
     const { replies, receipts } = this;
     replies.add();
     replies.part[at] = this.part;
+    this.parts.add(this.part);
     replies.first[at] = receipts.length;
-    if (head.startsWith(" ") || words.length < 3 || !/^[0-9]+$/.test(words[0])) return;
+    if (words.length < 3 || !/^[0-9]+$/.test(words[0])) return;
     replies.of[at] = Number(words[0]);
     if (words[1] === "dump") return;
     const [, cpu, call, ...answer] = words;
@@ -131,8 +145,8 @@ class Reader {
       if (answer === undefined) return;
       const at = receipts.add();
       receipts.reply[at] = reply;
-      receipts.entry[at] = entry;
-      receipts.stamp[at] = stamp;
+      receipts.entry[at] = bounded(entry);
+      receipts.stamp[at] = bounded(stamp);
       receipts.bits[at] = bits;
       receipts.answer[at] = answer;
     }
@@ -143,7 +157,8 @@ class Reader {
     const last = this.replies.add();
     this.replies.first[last] = this.receipts.length;
     const { of, ...lines } = this.replies.done();
-    return { ...lines, of: of.slice(0, last), ...this.receipts.done(), calls: this.calls };
+    const parts = [...this.parts].sort((a, b) => a - b);
+    return { ...lines, of: of.subarray(0, last), ...this.receipts.done(), calls: this.calls, parts };
   }
 
   // Whether a line is on a DMA window. Of a call by its number the form of the reply tells it: other calls that read or
@@ -158,6 +173,11 @@ class Reader {
   }
 }
 
+// A number as a column holds it, in place of what is left of a larger one.
+function bounded(number) {
+  return number >= 0 && number <= MOST_NUMBER ? number : MOST_NUMBER;
+}
+
 function digit(byte) {
   return byte < 58 ? byte - 48 : byte - 87;
 }
@@ -167,27 +187,44 @@ function keyOf(length, first) {
   return 256 * length + first;
 }
 
+// Whether a receipt is one of a page table, as the pictures show them: of no window, and of an entry that a table has.
+export function isOfTable(replies, at) {
+  return replies.isWindow[replies.reply[at]] === 0 && replies.entry[at] < MOST_ENTRIES;
+}
+
+// Whether a receipt's operation changed the entry.
+export function isChange(replies, at) {
+  const answer = replies.answer[at];
+  if (ANSWERS[answer] !== "at") return IS_CHANGE[answer];
+  return bitsAfter("at", replies.bits[at], callOf(replies, replies.reply[at])) !== replies.bits[at];
+}
+
+function callOf(replies, reply) {
+  return replies.calls[replies.call[reply]];
+}
+
 // One receipt of the columns as an object.
 export function receiptAt(replies, at) {
   const reply = replies.reply[at];
-  const receipt = {
+  const [call, answer, bits] = [callOf(replies, reply), ANSWERS[replies.answer[at]], replies.bits[at]];
+  return {
     line: replies.of[reply],
     cpu: replies.cpu[reply],
-    call: replies.calls[replies.call[reply]],
+    call,
     entry: replies.entry[at],
     stamp: replies.stamp[at],
-    bits: replies.bits[at],
-    answer: ANSWERS[replies.answer[at]],
+    bits,
+    answer,
     table: replies.table[reply],
+    isOfTable: isOfTable(replies, at),
     isWindow: replies.isWindow[reply] === 1,
+    bitsAfter: bitsAfter(answer, bits, call),
+    isChange: isChange(replies, at),
   };
-  receipt.bitsAfter = bitsAfter(receipt);
-  receipt.isChange = receipt.answer === "at" ? receipt.bitsAfter !== receipt.bits : CHANGES.has(receipt.answer);
-  return receipt;
 }
 
 // R (2) and C (1) after, or null where this receipt alone doesn't tell.
-function bitsAfter({ answer, bits, call }) {
+function bitsAfter(answer, bits, call) {
   if (answer === "removed") return 0;
   if (answer === "at") return bits | (call === "store" ? REFERENCED | CHANGED : REFERENCED);
   if (answer === "was") {
@@ -201,19 +238,6 @@ function bitsAfter({ answer, bits, call }) {
 export function wordsOf(receipt) {
   const { line, cpu, call, answer, stamp, bits } = receipt;
   return `line ${line}, processor ${cpu}: ${call} ${answer}; before: stamp ${stamp}, R ${bits >> 1}, C ${bits & 1}`;
-}
-
-// The receipts of one entry of a page table, in the order of its history: by table, stamp, bits set, changes last.
-export function historyOf(replies, part, entry) {
-  const found = [];
-  for (let at = replies.entry.indexOf(entry); at >= 0; at = replies.entry.indexOf(entry, at + 1)) {
-    const reply = replies.reply[at];
-    if (!replies.isWindow[reply] && replies.part[reply] === part) found.push(receiptAt(replies, at));
-  }
-  const count = (bits) => (bits >> 1) + (bits & 1);
-  return found.sort(
-    (a, b) => a.table - b.table || a.stamp - b.stamp || count(a.bits) - count(b.bits) || a.isChange - b.isChange,
-  );
 }
 
 // Whether a reply, by its place, has a receipt of this entry of a partition's page table.

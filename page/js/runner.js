@@ -1,13 +1,14 @@
 // Jobs for the proved program, one at a time, and the worker that does them.
 
+import { MOST_INPUT } from "./limits.js";
 import { server } from "./worker.js";
 
 export const STOPPED = "stopped";
 
 export class Runner {
-  // `source` is the text of this script, which the worker runs too; `told` hears how a job comes along.
-  constructor(module, source, told) {
-    Object.assign(this, { module, source, told, jobs: new Map(), last: 0, turn: 0 });
+  // `source` is the text of this script, which the worker runs too.
+  constructor(module, source) {
+    Object.assign(this, { module, source, jobs: new Map(), last: 0, turn: 0 });
     this.start();
   }
 
@@ -20,6 +21,7 @@ export class Runner {
       this.worker.terminate();
     }
     this.fail(STOPPED);
+    this.isReady?.(); // what waits for it finds that it is stopped
     this.turn += 1;
     this.ready = new Promise((resolve) => {
       this.isReady = resolve;
@@ -52,7 +54,7 @@ export class Runner {
     this.jobs.clear();
   }
 
-  hear({ ready, job, stage, part, error, ...outcome }) {
+  hear({ ready, job, told, error, outcome }) {
     if (ready) {
       this.isStarted = true;
       this.isReady();
@@ -65,23 +67,35 @@ export class Runner {
         this.jobs.delete(job);
         waiting?.reject(new Error(error));
       }
-    } else if (stage !== undefined) this.told(stage, part);
+    } else if (told !== undefined) waiting?.told(told);
     else {
       this.jobs.delete(job);
       waiting?.resolve(outcome);
     }
   }
 
-  // Calls the program; gives its status, what it wrote, and how long it took.
-  async call(words, input, judged = null) {
+  // Opens a file: a name, a Blob, and the command that it is for, if that is known.
+  open(file) {
+    return this.send({ file }, () => {}, []);
+  }
+
+  // Calls the program; `told` hears its answer, and how far the text has been read. Of what is given the worker has a
+  // copy, of no more than what is enough for the program to refuse it.
+  call({ command, words, trace, judged }, told) {
+    const [own, other] = [trace, judged].map(({ bytes }) => bytes.slice(0, MOST_INPUT + 1));
+    const task = { command, words, trace: own, judged: other, count: trace.count };
+    return this.send({ task }, told, [own.buffer, other.buffer]);
+  }
+
+  async send(message, told, buffers) {
     const { turn } = this;
     await this.ready;
     if (turn !== this.turn) throw new Error(STOPPED);
     this.last += 1;
     const job = this.last;
     return new Promise((resolve, reject) => {
-      this.jobs.set(job, { resolve, reject });
-      this.worker.postMessage({ job, words, input, judged });
+      this.jobs.set(job, { resolve, reject, told });
+      this.worker.postMessage({ job, ...message }, buffers);
     });
   }
 }

@@ -1,5 +1,7 @@
 // The lines of a trace, as far as the page has to know them: which are quiet, and where a refusal says why.
 
+import { Lines } from "./lines.js";
+
 const RESIZES = new Map([
   [0x36cn, "H_RESIZE_HPT_PREPARE"],
   [0x370n, "H_RESIZE_HPT_COMMIT"],
@@ -58,5 +60,18 @@ export function judgedText(trace, replies) {
 
 // The trace up to a line, with that line: what a table was behind it is the image of this.
 export function cutBehind(lines, number) {
-  return lines.bytes.subarray(0, lines.starts[Math.min(number, lines.count)]);
+  const count = Math.min(number, lines.count);
+  return new Lines(lines.bytes.subarray(0, lines.starts[count]), lines.starts.subarray(0, count + 1));
+}
+
+// The line of an image that has an index, or null. They stand in order of rising index, below the image's first line.
+export function imageLine(lines, index) {
+  let [low, high] = [1, lines.count];
+  while (low < high) {
+    const middle = (low + high) >> 1;
+    if (Number.parseInt(lines.text(middle), 16) < index) low = middle + 1;
+    else high = middle;
+  }
+  const found = low < lines.count ? lines.text(low) : "";
+  return found.startsWith(`0x${index.toString(16)} `) ? found : null;
 }

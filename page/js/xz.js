@@ -1,18 +1,17 @@
 // Files of xz, which browsers can't open themselves: streams with the filter LZMA2 and no check, CRC32 or CRC64.
 
+import { Output } from "./output.js";
+
 const MAGIC = [0xfd, 0x37, 0x7a, 0x58, 0x5a, 0x00];
 const CHECK_BYTES = new Map([[0, 0], [1, 4], [4, 8]]);
 const LZMA2 = 0x21;
-const MOST = 2 ** 27; // bytes that are unpacked; papr refuses more than 2^24
 
 export function isXz(bytes) {
   return MAGIC.every((byte, at) => bytes[at] === byte);
 }
 
-class Bad extends Error {}
-
 function need(holds) {
-  if (!holds) throw new Bad("the file isn't whole, or isn't one of xz with LZMA2");
+  if (!holds) throw new Error("the file isn't whole, or isn't one of xz with LZMA2");
 }
 
 // The bytes that a file of xz holds; throws where it is broken.
@@ -20,7 +19,7 @@ export function unpackXz(bytes) {
   const out = new Output();
   let at = 0;
   do at = stream(bytes, at, out); while (at < bytes.length && isXz(bytes.subarray(at)));
-  return out.bytes.slice(0, out.length);
+  return out.whole();
 }
 
 function stream(bytes, begin, out) {
@@ -72,23 +71,6 @@ function block(bytes, begin, check, out) {
   const sum = size === 0 ? [] : crc(out.bytes.subarray(first, out.length), size);
   need(sum.every((byte, place) => byte === bytes[at + place]));
   return at + size;
-}
-
-// What has been unpacked so far, from which later bytes are copied.
-class Output {
-  constructor() {
-    this.bytes = new Uint8Array(1 << 16);
-    this.length = 0;
-  }
-
-  reserve(count) {
-    const wanted = this.length + count;
-    if (wanted > MOST) throw new Bad("the file holds more than papr takes");
-    if (wanted <= this.bytes.length) return;
-    const longer = new Uint8Array(Math.max(wanted, 2 * this.bytes.length));
-    longer.set(this.bytes);
-    this.bytes = longer;
-  }
 }
 
 // ---- sums, by a table of 256 steps
@@ -164,9 +146,7 @@ class Lzma2 {
     if (control === 1) this.first = this.out.length;
     const length = this.short();
     need(this.at + length <= this.bytes.length);
-    this.out.reserve(length);
-    this.out.bytes.set(this.bytes.subarray(this.at, this.at + length), this.out.length);
-    this.out.length += length;
+    this.out.add(this.bytes.subarray(this.at, this.at + length));
     this.at += length;
   }
 

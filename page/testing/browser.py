@@ -49,6 +49,8 @@ class Browser:
         self.to, self.back = os.fdopen(ours[1], "wb"), os.fdopen(theirs[0], "rb")
         self.number, self.rest = 0, b""
         self.events: list[dict[str, Any]] = []
+        self.traced: list[dict[str, Any]] = []  # what Tracing.start asked for
+        self.is_traced = False  # whether all of it is there
         self.session: Optional[str] = None
         pages = self.call("Target.getTargets")["targetInfos"]
         target = next(it["targetId"] for it in pages if it["type"] == "page")
@@ -91,8 +93,17 @@ class Browser:
                     raise Bad(f"{method}: {told['error']}")
                 result: dict[str, Any] = told["result"]
                 return result
-            if told.get("method") in TOLD:
-                self.events.append(told)
+            self.hear(told)
+
+    def hear(self, told: dict[str, Any]) -> None:
+        """Keeps what is told without being asked for."""
+        method = told.get("method")
+        if method in TOLD:
+            self.events.append(told)
+        elif method == "Tracing.dataCollected":
+            self.traced += told["params"]["value"]
+        elif method == "Tracing.tracingComplete":
+            self.is_traced = True
 
     def message(self) -> dict[str, Any]:
         """The next message."""
@@ -130,10 +141,10 @@ class Browser:
         features = [{"name": "prefers-color-scheme", "value": name}]
         self.call("Emulation.setEmulatedMedia", features=features)
 
-    def open(self, page: Path, place: str = "") -> None:
-        """Opens a file at a place of it, anew."""
+    def open(self, address: str) -> None:
+        """Opens an address anew."""
         self.call("Page.navigate", url="about:blank")
-        self.call("Page.navigate", url=f"{page.resolve().as_uri()}{place}")
+        self.call("Page.navigate", url=address)
 
     def key(self, name: str, code: int, modifiers: int = 0) -> None:
         """Presses a key; 2 is Control."""

@@ -5,14 +5,14 @@ import random
 import tempfile
 from collections.abc import Iterator
 from pathlib import Path
-from typing import Any
+from typing import Any, Optional
 
 from browser import Browser
 from common import Bad
 from crates import TOP
 
 EXAMPLES = TOP / "examples"
-IS_DONE = "document.body.dataset.state === 'done'"
+IS_DONE = "document.body.dataset.state === 'done' && document.body.dataset.pictures !== 'waiting'"
 
 
 def quoted(words: str) -> str:
@@ -23,15 +23,16 @@ def quoted(words: str) -> str:
 class Opened:
     """The page, opened."""
 
-    def __init__(self, browser: Browser, page: Path) -> None:
+    def __init__(self, browser: Browser, page: Path, address: Optional[str] = None) -> None:
         self.browser, self.page = browser, page
+        self.address = address or page.resolve().as_uri()
         browser.size(1_400, 1_000)
         self.open()
 
     def open(self, place: str = "") -> None:
         """Opens the page anew, and waits for its first run."""
-        self.browser.open(self.page, place)
-        self.browser.wait("['done', 'failed'].includes(document.body?.dataset.state)")
+        self.browser.open(f"{self.address}{place}")
+        self.browser.wait(f"document.body?.dataset.state === 'failed' || (document.body && {IS_DONE})")
         # What is saved is taken here, in place of the user's folder.
         self.value("HTMLAnchorElement.prototype.click = () => {}")
         self.value(

@@ -1,6 +1,7 @@
-"""Traces that are changed by bytes, words, lines and DMA windows."""
+"""Traces and other texts that are changed by bytes, words, numbers, lines and DMA windows."""
 
 import random
+import re
 from typing import Sequence
 
 Lines = list[bytes]
@@ -17,6 +18,14 @@ WORDS = [
     *(b"ram", b"io", b"entry", b"old", b"new", b"00000000000010010000000000003012", b"priv", b"user"),
     *(b"#", b"\r", b"\t", b"shared", b"window", b"7", b"8"),
 ]
+# Numbers at the ends of what a text may have, and words that Python alone takes for numbers.
+EDGES = [
+    *(b"", b"0", b"00", b"-1", b"+1", b"1_0", b"0x", b"x", "\u00b2".encode(), b"63", b"64", b"17", b"23"),
+    *(b"%d" % (2**power + more) for power in (14, 18, 32, 63, 64) for more in (-1, 0)),
+    *(b"0x%x" % (2**power + more) for power in (18, 60, 63, 64) for more in (-1, 0)),
+    *(b"9" * 20, b"9" * 26, b"7" * 5_000, b"f" * 17, b"f" * 4_000),
+]
+DIGITS = re.compile(rb"[0-9a-f]*[0-9][0-9a-f]*")
 # Of DMA windows: in the first row what most lines have, in the second what is at an edge or past it.
 LIOBNS: Rows = ([0x1, 0x1, 0x1, 0x2, 0x80000001], [0x0, 2**32 - 1, 2**32, 2**64 - 1])
 BASES: Rows = ([0x0, 0x0, 0x1000, 0x100000], [2**60 - 0x1000, 2**60, 2**64 - 0x1000, 0x800, 0x1])
@@ -141,6 +150,34 @@ def mutated(draw: random.Random, traces: Sequence[Lines]) -> bytes:
             lines = change_lines(draw, lines, traces)
         elif kind == 5:
             lines = with_windows(draw, lines)
+        else:
+            lines = change_bytes(draw, b"\n".join(lines)).split(b"\n")
+    return b"\n".join(lines)
+
+
+def change_numbers(draw: random.Random, given: Lines) -> Lines:
+    """A number of some lines replaced, also a part of a word."""
+    lines = list(given)
+    for _ in range(draw.choice([1, 1, 3])):
+        place = draw.randrange(len(lines))
+        found = list(DIGITS.finditer(lines[place]))
+        if found:
+            start, end = draw.choice(found).span()
+            lines[place] = lines[place][:start] + draw.choice(EDGES) + lines[place][end:]
+    return lines
+
+
+def changed(draw: random.Random, given: Sequence[bytes]) -> bytes:
+    """One of some texts of any kind, changed once or twice, or not at all."""
+    lines = some_lines(draw, draw.choice(given).split(b"\n"))
+    for _ in range(draw.choice([0, 1, 1, 2])):
+        kind = draw.randrange(5)
+        if kind < 2 and lines:
+            lines = change_numbers(draw, lines)
+        elif kind == 2 and lines:
+            lines = change_words(draw, lines)
+        elif kind == 3 and lines:
+            lines = change_lines(draw, lines, [lines])
         else:
             lines = change_bytes(draw, b"\n".join(lines)).split(b"\n")
     return b"\n".join(lines)

@@ -10,6 +10,7 @@ import argparse
 import re
 
 from checks.antt import Specs, read_specs
+from checks.cited import clauses_of, faults_of_clauses
 from checks.rattle import Function, read_functions, read_variants
 from checks.running import Failed
 from crates import TOP
@@ -32,18 +33,9 @@ NO_CALLS = ("main",)
 
 def check_named(page: str, found: list[Function]) -> int:
     """How many clauses are named. Each has to be there."""
-    clauses: dict[tuple[str, str], set[str]] = {}
-    for one in found:
-        clauses.setdefault((one.crate, one.path), set()).update(clause.name for clause in one.clauses)
-    count = 0
-    for crate, path, rest in NAMED.findall(page):
-        if (crate, path) not in clauses:
-            raise Failed(f"there is no function {crate}::{path}")
-        for name in WORD.findall(rest):
-            if name not in clauses[crate, path]:
-                raise Failed(f"{crate}::{path} has no clause `{name}`")
-            count += 1
-    return count
+    for fault in faults_of_clauses(page, clauses_of(found), NAMED):
+        raise Failed(fault)
+    return sum(len(WORD.findall(rest)) for _crate, _path, rest in NAMED.findall(page))
 
 
 def check_fields(page: str, specs: Specs) -> int:

@@ -9,14 +9,13 @@ import re
 from typing import Iterator, NamedTuple
 
 from checks.antt import Specs, read_specs
+from checks.cited import CITED, WORD, Clauses, clauses_of, faults_of_clauses
 from checks.rattle import read_functions
 from checks.running import Failed
 from crates import CRATES, TOP
 
 PAGE = TOP / "docs" / "STANDARD.md"
 ROW = re.compile(r"\| (.*?) ?\| (.+) \| (.+) \|")
-WORD = re.compile(r"`([^`]+)`")
-CLAUSES = re.compile(r"`([a-z_]+)::((?:\w+::)?\w+)`((?: `\w+`)+)")
 SPECS = re.compile(r"([a-z_]+)/specs/(\w+)\.antt")
 HEADS = ("sentence", "---")
 
@@ -37,17 +36,6 @@ def rows() -> Iterator[Row]:
             yield Row(number, found[2], WORD.findall(found[3]))
 
 
-def faults_of_clauses(row: Row, clauses: dict[tuple[str, str], set[str]]) -> Iterator[str]:
-    """Functions of a row that aren't there, or lack a clause."""
-    for crate, path, rest in CLAUSES.findall(row.names):
-        if (crate, path) not in clauses:
-            yield f"there is no function {crate}::{path}"
-            continue
-        for name in WORD.findall(rest):
-            if name not in clauses[crate, path]:
-                yield f"{crate}::{path} has no clause `{name}`"
-
-
 def faults_of_names(row: Row, names: list[str], specs: Specs) -> Iterator[str]:
     """Definitions of a row that its file doesn't have."""
     for file in row.files:
@@ -59,14 +47,14 @@ def faults_of_names(row: Row, names: list[str], specs: Specs) -> Iterator[str]:
         yield from (f"{file} has no `{name}`" for name in names if module.find(name) is None)
 
 
-def faults(row: Row, specs: Specs, clauses: dict[tuple[str, str], set[str]]) -> Iterator[str]:
+def faults(row: Row, specs: Specs, clauses: Clauses) -> Iterator[str]:
     """What a row names and isn't there."""
     for file in row.files:
         if not (CRATES / file).exists():
             yield f"there is no crates/{file}"
             return
-    yield from faults_of_clauses(row, clauses)
-    names = WORD.findall(CLAUSES.sub("", row.names))
+    yield from faults_of_clauses(row.names, clauses)
+    names = WORD.findall(CITED.sub("", row.names))
     if names:
         yield from faults_of_names(row, names, specs)
 
@@ -77,10 +65,7 @@ def add_options(_parser: argparse.ArgumentParser) -> None:
 
 def check(_given: argparse.Namespace) -> str:
     """All rows against the sources."""
-    clauses: dict[tuple[str, str], set[str]] = {}
-    for one in read_functions(TOP):
-        clauses.setdefault((one.crate, one.path), set()).update(clause.name for clause in one.clauses)
-    specs, found = read_specs(TOP), list(rows())
+    specs, clauses, found = read_specs(TOP), clauses_of(read_functions(TOP)), list(rows())
     wrong = [f"{PAGE.name}:{row.line}: {it}" for row in found for it in faults(row, specs, clauses)]
     if wrong:
         raise Failed("\n".join(["names that aren't there", *wrong]))

@@ -6,6 +6,7 @@ from pathlib import Path
 from typing import Mapping, Optional
 
 from .built import BYTES_SHARED, PROGRAM_TEXT, SHARED
+from .emulator import EMULATED
 from .stand_in import COMPILER, make_kit
 from .support import PATIENCE, TOP, Ran, Word, run, write_script
 
@@ -30,10 +31,13 @@ NAMES = {
     "SHARED": Path("out/lib") / SHARED,
     "BYTES_SHARED": Path("out/lib") / BYTES_SHARED,
 }
-AARCH64 = [
-    Path("out/aarch64") / name
-    for name in ("papr", "libpapr.a", "libpapr_shared.a", "libpapr_bytes.a", SHARED, BYTES_SHARED)
-]
+OTHERS = {
+    machine.name: [
+        Path("out") / machine.name / name
+        for name in ("papr", "libpapr.a", "libpapr_shared.a", "libpapr_bytes.a", SHARED, BYTES_SHARED)
+    ]
+    for machine in EMULATED
+}
 
 
 def is_left_out(name: str) -> bool:
@@ -86,10 +90,10 @@ class Committed:
                 shutil.copy(files[variable], path)
         (self.top / "out" / "build.kit").write_text(f"{KIT}\n", encoding="ascii")
 
-    def put_aarch64(self) -> None:
-        """Puts what is built here for aarch64 where it is built, or texts that stand for it."""
-        for place in AARCH64:
-            write_script(self.top / place, f"aarch64 {place.name}\n")
+    def put_other(self, name: str) -> None:
+        """Puts what is built here for another processor where it is built, or texts that stand for it."""
+        for place in OTHERS[name]:
+            write_script(self.top / place, f"{name} {place.name} GLIBC_2.34\n")
             if (TOP / place).is_file():
                 shutil.copy(TOP / place, self.top / place)
 

@@ -1,24 +1,56 @@
-"""Programs for aarch64: how they are compiled, and run by qemu-aarch64."""
+"""Programs for other processors: how they are compiled, and run by qemu."""
 
 import unittest
+from dataclasses import dataclass
 from pathlib import Path
+from typing import Optional
 
 from .support import TOP, Test, missing, write_script
 
-BUILT = TOP / "out" / "aarch64"
-COMPILER, EMULATOR, SYSTEM = "aarch64-linux-gnu-gcc", "qemu-aarch64", Path("/usr/aarch64-linux-gnu")
+
+@dataclass(frozen=True)
+class Emulated:
+    """A processor that qemu has."""
+
+    name: str
+    tools: str  # the prefix of the cross compiler
+    debian: str
+    told: str  # how `readelf -h` names it
+
+    @property
+    def built(self) -> Path:
+        """The folder of what is built for it."""
+        return TOP / "out" / self.name
+
+    @property
+    def compiler(self) -> str:
+        """The cross compiler."""
+        return f"{self.tools}-gcc"
+
+    @property
+    def lacking(self) -> str:
+        """Why nothing can be tested of it here, or nothing."""
+        found = missing(self.compiler, f"qemu-{self.name}")
+        if found:
+            return f"{' and '.join(found)} is not installed"
+        is_built = (self.built / "papr").is_file()
+        return "" if is_built else f"nothing is built for {self.name}: {self.built} is missing (make {self.name})"
+
+    def __str__(self) -> str:
+        return self.name
+
+    def needed(self, test: Test) -> Test:
+        """Skips a test, or the tests of a class, where nothing is built for it or it can't be run."""
+        return unittest.skipIf(self.lacking, self.lacking)(test)
+
+    def emulated(self, program: Path, folder: Path, libraries: Optional[Path] = None) -> Path:
+        """A script that runs a program for it, which finds its libraries in a folder."""
+        words = f"-L '/usr/{self.tools}' -E LD_LIBRARY_PATH='{libraries or self.built}' '{program}'"
+        text = f'#!/bin/sh\nexec qemu-{self.name} {words} "$@"\n'
+        return write_script(folder / f"run-{self.name}-{program.name}", text)
 
 
-def needs_aarch64(test: Test) -> Test:
-    """Skips a test, or the tests of a class, where nothing is built for aarch64 or it can't be run."""
-    lacking = missing(COMPILER, EMULATOR)
-    reason = f"{' and '.join(lacking)} is not installed" if lacking else ""
-    if not reason and not (BUILT / "papr").is_file():
-        reason = f"nothing is built for aarch64: {BUILT} is missing (make aarch64)"
-    return unittest.skipIf(reason, reason)(test)
-
-
-def emulated(program: Path, folder: Path, libraries: Path = BUILT) -> Path:
-    """A script that runs a program of aarch64, which finds its libraries in a folder."""
-    words = f"-L '{SYSTEM}' -E LD_LIBRARY_PATH='{libraries}' '{program}'"
-    return write_script(folder / f"run-{program.name}", f'#!/bin/sh\nexec {EMULATOR} {words} "$@"\n')
+AARCH64 = Emulated("aarch64", "aarch64-linux-gnu", "arm64", "AArch64")
+PPC64LE = Emulated("ppc64le", "powerpc64le-linux-gnu", "ppc64el", "PowerPC64")
+RISCV64 = Emulated("riscv64", "riscv64-linux-gnu", "riscv64", "RISC-V")
+EMULATED = (AARCH64, PPC64LE, RISCV64)

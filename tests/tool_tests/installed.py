@@ -14,6 +14,7 @@ COMMANDS = (
     "papr-receipts",
     "papr-why",
     "papr-bad-line",
+    "papr-find-order",
     "papr-cut",
     "papr-entries",
     "papr-decode",

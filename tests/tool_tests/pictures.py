@@ -49,6 +49,11 @@ def replies_of(path: Path) -> str:
     return path.read_text(encoding="ascii")
 
 
+# Characters that a word of a foreign text can have and XML can't write, and how a picture shows them.
+STRANGE = "".join(chr(code) for code in range(32) if not chr(code).isspace())
+SHOWN = "".join(f"\\x{ord(letter):02x}" for letter in STRANGE)
+
+
 class PictureTest(ToolTest):
     """A test of a tool that draws."""
 

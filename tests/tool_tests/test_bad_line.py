@@ -74,6 +74,12 @@ class Verdicts(InstalledTest):
     def test_a_good_text(self) -> None:
         self.assert_ran(self.judge("good-schedule"), "good\n")
 
+    def test_text_that_follows_the_last_reply(self) -> None:
+        replies = self.write("bad.replies", "2 0 slbclear ok\n3 0 slbclear ok\n")
+        ran = self.run_installed("papr-bad-line", self.write("bad.trace", "begin\n0 slbclear\n"), replies)
+        told = "no line of it is bad by itself: replies are missing, or text follows them"
+        self.assert_ran(ran, f"bad section 2\n{told}\n", status=1)
+
     def test_a_trace_that_is_refused(self) -> None:
         files = self.write("bad.trace", "begin\n0 H_READ\n"), self.write("bad.replies", "")
         ran = self.run_installed("papr-bad-line", *files)

@@ -309,10 +309,12 @@ class GoneWrong(BuildTest):
         self.assertIn(" --jobs 1 ", self.checkout.logged())
 
     def test_a_build_that_is_killed_is_begun_anew_by_the_next(self) -> None:
-        """It can say nothing, and its status is that of a build that failed."""
+        """It can say nothing itself, and its status is that of a build that failed."""
         begun = self.checkout.begin(self.checkout.top / "papr", "run")
         begun.wait_for_proofs()
-        self.assert_ran(begun.end(KILL, begun.builder()), status=126, err=None)
+        killed = begun.end(KILL, begun.builder())
+        self.assert_ran(killed, status=126, err=None)
+        self.assertEqual(killed.err.splitlines()[-1], "papr: the build was ended by signal 9")
         (process,) = self.checkout.compilers()
         self.assertTrue(is_running(process))
         second = self.checkout.begin(self.checkout.top / "papr", "run", SLOW="0")

@@ -40,9 +40,10 @@ STRUCTS = {
     "PaprDevice": "papr_device",
     "PaprTransfer": "papr_transfer",
 }
-# And those of papr_shared.h.
+# And those of papr_shared.h and of papr_bytes.h.
 SHARED_STRUCTS = {"PaprPass": "papr_pass", "PaprBusy": "papr_busy"}
-NAMES = {**STRUCTS, **SHARED_STRUCTS}
+BYTES_STRUCTS = {"CallEnd": "papr_bytes_end"}
+NAMES = {**STRUCTS, **SHARED_STRUCTS, **BYTES_STRUCTS}
 FUNCTIONS = (
     "papr_version",
     "papr_make_grants",
@@ -88,7 +89,7 @@ WIDTHS = {"uint8_t": 1, "uint32_t": 4, "uint64_t": 8, "int64_t": 8, "size_t": 8,
 # The parts of a version.
 PARTS = ("MAJOR", "MINOR", "PATCH")
 
-# How the header names the count behind a slice.
+# How the headers name the count behind a slice.
 COUNTS = {
     "entries": "count",
     "words": "words_room",
@@ -99,6 +100,11 @@ COUNTS = {
     "into": "into_count",
     "out": "out_size",
     "bytes": "bytes_size",
+    "first": "first_length",
+    "second": "second_length",
+    "third": "third_length",
+    "input": "input_length",
+    "output": "room",
 }
 
 # What isn't there in C: facts of the proof, and the heap, which has no bytes.

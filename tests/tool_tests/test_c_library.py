@@ -11,8 +11,8 @@ from pathlib import Path
 from typing import ClassVar
 
 from .built import HERE, OBJECTS, declared, make_built, make_shared, words_of
-from .support import BYTES_LIBRARY, DATA, EXAMPLES, LIBRARY, MAJOR, TOP, ToolTest, for_each, needs
-from .support import needs_bytes_library, needs_library, needs_shared_table, run, run_bytes
+from .support import BYTES_LIBRARY, DATA, EXAMPLES, LIBRARY, MAJOR, SHARED_TABLE, TOP, ToolTest
+from .support import for_each, needs, needs_bytes_library, needs_library, needs_shared_table, run, run_bytes
 
 INCLUDE = TOP / "include"
 STRICT = ("-Wall", "-Wextra", "-Werror", f"-I{INCLUDE}")
@@ -243,6 +243,55 @@ class Orders(ToolTest):
         program, bench = self.folder / "orders", TOP / "bench"
         sources = (DATA / "orders.c", bench / "plain-table.c")
         self.assert_ran(run("cc", "-std=gnu11", *STRICT, f"-I{bench}", "-O1", "-o", program, *sources, LIBRARY))
+        self.assert_ran(run(program))
+
+
+@needs("cc")
+@needs_library
+class ManyGrants(ToolTest):
+    """A program that gives the calls lists whose count is above the 64 grants that there is room for."""
+
+    def test_such_a_list_grants_nothing(self) -> None:
+        program = self.folder / "many-grants"
+        words = ("-std=gnu11", *STRICT, "-Wpedantic", "-O1", "-o", program)
+        self.assert_ran(run("cc", *words, DATA / "many-grants.c", LIBRARY))
+        self.assert_ran(run(program))
+
+
+@needs("cc")
+@needs_bytes_library
+class LargeInput(ToolTest):
+    """A program that has the longest input answered, with an output of more than 43 MB."""
+
+    def test_a_trace_of_16_mb_is_answered_whole(self) -> None:
+        program = self.folder / "large"
+        words = ("-std=c11", *STRICT, "-Wpedantic", "-O1", "-o", program)
+        self.assert_ran(run("cc", *words, DATA / "bytes" / "large.c", BYTES_LIBRARY))
+        self.assert_ran(run(program))
+
+
+@needs("cc")
+@needs_library
+class Edges(ToolTest):
+    """A program that holds papr.h to what it says of pointers that may be NULL, and of structs that no call left."""
+
+    def test_what_the_header_says_at_the_edges_is_so(self) -> None:
+        program = self.folder / "edges"
+        self.assert_ran(run("cc", "-std=c11", *STRICT, "-O1", "-o", program, DATA / "edges.c", LIBRARY))
+        self.assert_ran(run(program))
+
+
+@needs("cc")
+@needs_library
+@needs_shared_table
+@needs_bytes_library
+class Stack(ToolTest):
+    """A program that measures how much stack calls need."""
+
+    def test_no_call_needs_more_stack_than_its_header_says(self) -> None:
+        program, libraries = self.folder / "stack", (SHARED_TABLE, LIBRARY, BYTES_LIBRARY)
+        words = ("-std=gnu11", "-pthread", *STRICT, "-O1", "-o", program, DATA / "stack.c", *libraries)
+        self.assert_ran(run("cc", *words))
         self.assert_ran(run(program))
 
 

@@ -1,6 +1,6 @@
 """Tests of the pictures of an entry's history."""
 
-from .pictures import PictureTest, replies_of, written
+from .pictures import SHOWN, STRANGE, PictureTest, replies_of, written
 from .support import DATA, DOCS, EXAMPLES, TOOLS, run
 
 DRAW = TOOLS / "entry-history"
@@ -31,6 +31,13 @@ class Pictures(PictureTest):
         self.assert_receipts(svg, [it for it in written(replies_of(SHARING)) if it.entry == 0x20])
         self.assertEqual(len(set(self.elements(svg, "title"))), 16 + len(self.legend(svg)))
         self.assert_within_edges(svg)
+
+    def test_characters_that_xml_cannot_write_are_shown(self) -> None:
+        """In the words above a column, and in its tooltip."""
+        svg = self.draw("0x20", given=f"5 0 a{STRANGE}b 0 | 0x20.0.0.entered\n")
+        self.assertIn(f"a{SHOWN}b entered", self.texts(svg))
+        titles = [element.text for element in self.elements(svg, "title")]
+        self.assertIn(f"line 5, processor 0: a{SHOWN}b entered; before: stamp 0, R 0, C 0", titles)
 
     def legend(self, svg: str) -> list[str]:
         """The words of the legend: those of the marks."""

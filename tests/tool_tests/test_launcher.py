@@ -48,6 +48,7 @@ TOOLS_OF = {
     "picture": "run-picture",
     "receipts": "receipts",
     "bad-line": "bad-line",
+    "find-order": "find-order",
     "cut": "cut-trace",
     "from-qemu": "qemu-log-to-trace",
     "entries": "htab-to-entries",
@@ -117,9 +118,9 @@ class Inputs(LauncherTest):
     @needs("xz")
     def test_a_file_that_cannot_be_expanded(self) -> None:
         self.file("t.xz", "not compressed\n")
-        ran = self.papr("run", "t.xz")
-        self.assert_ran(ran, status=3, err=None)
-        self.assertIn("t.xz", ran.err)
+        self.assert_ran(self.papr("run", "t.xz"), status=3, err="papr: t.xz: File format not recognized\n")
+        (self.folder / "t.gz").write_bytes(gzip.compress(b"a trace\n" * 100)[:-10])
+        self.assert_ran(self.papr("run", "t.gz"), status=3, err="papr: t.gz: unexpected end of file\n")
 
     def test_a_command_that_expands_and_is_not_installed(self) -> None:
         self.file("t.zst", "")

@@ -71,6 +71,15 @@ class LayOut(ToolTest):
         """It stays as it is."""
         self.assertEqual(self.laid_out(KEPT[name]), KEPT[name])
 
+    def test_a_file_is_replaced_and_not_written_anew(self) -> None:
+        """So that what it had before is lost at no moment: another name of it keeps that."""
+        path, other = self.folder / "File.antt", self.folder / "other"
+        path.write_text(ROWS["a definition"][0] + "\n", encoding="utf-8")
+        other.hardlink_to(path)
+        self.assert_ran(run(LAY_OUT, path))
+        self.assertEqual(path.read_text(encoding="utf-8"), ROWS["a definition"][1] + "\n")
+        self.assertEqual(other.read_text(encoding="utf-8"), ROWS["a definition"][0] + "\n")
+
     def test_check_changes_nothing(self) -> None:
         """A wide line is named, and the file stays."""
         path: Path = self.folder / "File.antt"

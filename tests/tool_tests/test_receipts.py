@@ -88,6 +88,19 @@ class Tables(ToolTest):
         self.assertEqual(len(expected), 15)
         self.assertEqual(json.loads(ran.out), [typed(row) for row in expected])
 
+    def test_no_cell_of_a_foreign_text_is_a_formula(self) -> None:
+        """Codes stay numbers, also below 0."""
+        text = "1 0 =1+1 -4 @A1 +1 | 0x1.0.0.entered\n2 0 a=b -4+A1 -1 | 0x2.0.0.entered\n"
+        ran = run(RECEIPTS, "--csv", "--replies", given=text)
+        self.assert_ran(ran, out=None)
+        rows = [",".join(line.split(",")[3:6]) for line in ran.out.splitlines()]
+        self.assertEqual(rows, ["call,ending,words", "'=1+1,-4,'@A1 +1", "a=b,'-4+A1,-1"])
+        ran = run(RECEIPTS, "--csv", given=text)
+        self.assert_ran(ran, out=None)
+        self.assertEqual([line.split(",")[3] for line in ran.out.splitlines()], ["call", "'=1+1", "a=b"])
+        for form in (["--json"], ["--json", "--replies"]):
+            self.assertEqual(json.loads(run(RECEIPTS, *form, given=text).out)[0]["call"], "=1+1")
+
     def test_a_reader_may_stop_early(self) -> None:
         """Of more than a pipe holds it takes one line."""
         replies = self.folder / "long.replies"

@@ -411,6 +411,16 @@ class Words(RecordingTest):
     def test_the_tool_has_help(self) -> None:
         self.assert_help(JUDGE)
 
+    def test_parts_replace_links_of_their_names(self) -> None:
+        victim = self.folder / "victim"
+        victim.write_text("precious\n")
+        for kind in ("trace", "replies"):
+            (self.parts / f"part-1.{kind}").symlink_to(victim)
+        enter(self.it)
+        self.assert_ran(self.convert("--unjudged"), out=None)
+        self.assertIn("H_ENTER", self.text("replies"))
+        self.assertEqual(victim.read_text(), "precious\n")
+
     def test_a_folder_that_is_no_recording(self) -> None:
         message = f"judge-recording: {EXAMPLES} is no recording: it has no actor-0"
         self.assert_refused(run(JUDGE, EXAMPLES), message)

@@ -12,10 +12,10 @@ from pathlib import Path
 from typing import Callable, ClassVar
 
 from .built import make_built, make_stand_ins
-from .committed import AARCH64, CRATES, KIT, NAMES, SAID, Committed, listed, without_make
-from .emulator import COMPILER, emulated, needs_aarch64
-from .support import DATA, EXAMPLES, MAJOR, VERSION, ToolTest, for_each, needs
-from .support import needs_bytes_library, needs_library, needs_program, run, write_script
+from .committed import CRATES, KIT, NAMES, OTHERS, SAID, Committed, listed, without_make
+from .emulator import EMULATED, Emulated
+from .support import DATA, EXAMPLES, MAJOR, VERSION, ToolTest, for_each, missing, needs
+from .support import needs_bytes_library, needs_library, needs_program, run, run_bytes, write_script
 
 Runner = Callable[[Path], Path]
 AGAIN = "run tools/gate"
@@ -152,11 +152,12 @@ class Refused(CommittedTest):
         (self.checkout.top / NAMES["LIBRARY"]).unlink()
         self.assert_no_release(f"{NAMES['LIBRARY']} isn't built; {AGAIN}")
 
-    def test_what_the_gate_tested_for_aarch64_and_is_gone(self) -> None:
-        self.checkout.put_aarch64()
+    @for_each(*OTHERS)
+    def test_what_the_gate_tested_and_is_gone_of(self, name: str) -> None:
+        self.checkout.put_other(name)
         self.checkout.gate()
-        (self.checkout.top / AARCH64[0]).unlink()
-        self.assert_no_release(f"{AARCH64[0]} isn't the one that the gate tested; {AGAIN}")
+        (self.checkout.top / OTHERS[name][0]).unlink()
+        self.assert_no_release(f"{OTHERS[name][0]} isn't the one that the gate tested; {AGAIN}")
 
     def test_sources_that_are_no_checkout_of_git(self) -> None:
         git = self.checkout.top / ".git"
@@ -170,10 +171,15 @@ def names_in(folder: Path) -> list[str]:
     return sorted(path.name for path in folder.iterdir())
 
 
-def expected_names() -> list[str]:
-    """The files of a release with all its parts."""
-    archives = [f"papr-{VERSION}-{machine}.tar.xz" for machine in ("aarch64", "x86_64")]
-    packages = [f"{name}_{VERSION}_amd64.deb" for name in ("libpapr-dev", "libpapr0", "papr")]
+# The processors for whose packages the tools are here.
+PACKED = [machine for machine in EMULATED if not missing(f"{machine.tools}-strip")]
+
+
+def expected_names(*others: Emulated) -> list[str]:
+    """The files of a release with the parts for these processors."""
+    archives = [f"papr-{VERSION}-{name}.tar.xz" for name in ("x86_64", *(it.name for it in others))]
+    names = ("libpapr-dev", "libpapr0", "papr")
+    packages = [f"{name}_{VERSION}_{it}.deb" for name in names for it in ("amd64", *(it.debian for it in others))]
     sources = [f"papr-{VERSION}.tar.gz", f"papr-{VERSION}-py3-none-any.whl"]
     return sorted(["PROVED.txt", "SHA256SUMS", *packages, *archives, *sources])
 
@@ -198,7 +204,8 @@ class Released(ToolTest):
         """A checkout with a release."""
         checkout = Committed(folder, FILES or [])
         checkout.put(make_built(folder))
-        checkout.put_aarch64()
+        for machine in PACKED:
+            checkout.put_other(machine.name)
         for ran in (checkout.gate(), checkout.release(**variables)):
             if ran.status:
                 raise OSError(f"no release: {ran.err}")
@@ -213,7 +220,7 @@ class Released(ToolTest):
         return found
 
     def test_its_parts(self) -> None:
-        self.assertEqual(names_in(self.checkout.released), expected_names())
+        self.assertEqual(names_in(self.checkout.released), expected_names(*PACKED))
 
     @needs("sha256sum")
     def test_the_sums_are_those_of_all_parts(self) -> None:
@@ -250,7 +257,7 @@ class Released(ToolTest):
             sums.append(f"{hashlib.sha256(ran.out.encode()).hexdigest()}  {name}\n")
         self.assertIn(f"\n\n{''.join(sums)}\n", text)
 
-    @for_each("x86_64", "aarch64")
+    @for_each("x86_64", *(machine.name for machine in PACKED))
     def test_a_tarball_has_all_that_is_installed(self, machine: str) -> None:
         tree = self.unpack(f"papr-{VERSION}-{machine}.tar.xz")
         self.assertEqual(tree.name, f"papr-{VERSION}-{machine}")
@@ -268,7 +275,7 @@ class Released(ToolTest):
             "share/papr/why",
         ):
             self.assertTrue((tree / name).is_file(), name)
-        built = self.checkout.top / (AARCH64[0] if machine == "aarch64" else NAMES["PROGRAM"])
+        built = self.checkout.top / (NAMES["PROGRAM"] if machine == "x86_64" else OTHERS[machine][0])
         self.assert_same_file(tree / "libexec" / "papr" / "papr", built)
         version = f"{VERSION}\n{self.checkout.git('rev-parse', 'HEAD')[:12]}\n{KIT}\n"
         self.assertEqual((tree / "share" / "papr" / "version").read_text(encoding="ascii"), version)
@@ -304,13 +311,28 @@ class Released(ToolTest):
         self.assert_libraries_are_found(tree, "cc", with_libraries)
 
     @needs("pkg-config")
-    @needs_aarch64
-    def test_the_tarball_for_aarch64_by_the_emulator(self) -> None:
-        tree = self.unpack(f"papr-{VERSION}-aarch64.tar.xz")
-        papr = emulated(tree / "libexec" / "papr" / "papr", self.folder)
+    @for_each(*PACKED)
+    def test_the_tarball_by_the_emulator_of(self, machine: Emulated) -> None:
+        if machine.lacking:
+            self.skipTest(machine.lacking)
+        tree = self.unpack(f"papr-{VERSION}-{machine.name}.tar.xz")
+        papr = machine.emulated(tree / "libexec" / "papr" / "papr", self.folder)
         ran = run(papr, "run", given=EXAMPLES / "resize.trace")
         self.assert_ran(ran, (EXAMPLES / "resize.replies").read_text(encoding="ascii"))
-        self.assert_libraries_are_found(tree, COMPILER, lambda it: emulated(it, self.folder, tree / "lib"))
+
+        def with_libraries(program: Path) -> Path:
+            return machine.emulated(program, self.folder, tree / "lib")
+
+        self.assert_libraries_are_found(tree, machine.compiler, with_libraries)
+
+    @for_each(*PACKED)
+    def test_the_packages_are_for_the_processor(self, machine: Emulated) -> None:
+        """They name it, and their libraries lie where its system looks for them."""
+        for name in ("papr", f"libpapr{MAJOR}", "libpapr-dev"):
+            package = self.checkout.released / f"{name}_{VERSION}_{machine.debian}.deb"
+            self.assertEqual(run("dpkg-deb", "-f", package, "Architecture").out, f"{machine.debian}\n")
+        listed = run("tar", "-t", given=run_bytes("dpkg-deb", "--fsys-tarfile", package)).out
+        self.assertIn(f"./usr/lib/{machine.tools}/libpapr.a\n", listed)
 
 
 @needs_git
@@ -322,13 +344,28 @@ class Parts(CommittedTest):
         super().setUp()
         self.checkout.put(make_stand_ins(self.folder))
 
-    def test_nothing_for_aarch64_where_the_gate_built_none(self) -> None:
+    def test_nothing_for_others_where_the_gate_built_none(self) -> None:
         self.checkout.gate()
         ran = self.checkout.release()
-        told = "release: nothing for aarch64: where the gate ran there was no compiler for it\n"
-        self.assert_ran(ran, out=None, err=told)
-        wanted = [name for name in expected_names() if "aarch64" not in name]
-        self.assertEqual(names_in(self.checkout.released), wanted)
+        nothing = "release: nothing for {}: where the gate ran there was no compiler for it\n"
+        self.assert_ran(ran, out=None, err="".join(nothing.format(name) for name in OTHERS))
+        self.assertEqual(names_in(self.checkout.released), expected_names())
+
+    def test_a_release_is_refused_where_the_tools_for_packages_are_missing(self) -> None:
+        """Those for a processor that the gate built for."""
+        self.checkout.put_other("riscv64")
+        self.checkout.gate()
+        path = self.folder / "bin"
+        path.mkdir()
+        for place in ("/usr/bin", "/bin"):
+            for command in Path(place).iterdir():
+                if "riscv64" not in command.name and not (path / command.name).exists():
+                    (path / command.name).symlink_to(command)
+        ran = self.checkout.release(PATH=str(path))
+        self.assertEqual(ran.status, 2)
+        package = "binutils-riscv64-linux-gnu"
+        self.assertIn(f"debian: riscv64-linux-gnu-strip isn't here; Debian's package {package} has it", ran.err)
+        self.assertFalse(self.checkout.released.exists())
 
     def test_what_an_earlier_release_left_is_taken_away(self) -> None:
         self.checkout.released.mkdir(parents=True)

@@ -1,6 +1,6 @@
 """Tests of the picture of a whole run."""
 
-from .pictures import PictureTest, replies_of, written
+from .pictures import SHOWN, STRANGE, PictureTest, replies_of, written
 from .support import DATA, DOCS, EXAMPLES, PROGRAM, TOOLS, for_each, needs, needs_program, run, run_bytes
 
 DRAW = TOOLS / "run-picture"
@@ -29,6 +29,11 @@ class Pictures(PictureTest):
         self.assertEqual(texts[0], "A run of papr: 14 lines, 3 receipts, and 12 of DMA windows")
         self.assertCountEqual([text for text in texts if text in KINDS], KINDS)
         self.assertEqual([text for text in texts if text.endswith((" receipt", " receipts"))], ["3 receipts"])
+
+    def test_characters_that_xml_cannot_write_are_shown(self) -> None:
+        ran = run(DRAW, given=f"5 0 a{STRANGE}b 0\n")
+        self.assert_ran(ran, out=None)
+        self.assertIn(f"a{SHOWN}b", self.texts(ran.out))
 
     def test_lines_and_an_entry_are_chosen(self) -> None:
         ran = run(DRAW, "--lines", "10..26", "--entry", "0x20", EXAMPLES / "sharing.replies")

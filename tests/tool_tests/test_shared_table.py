@@ -22,6 +22,7 @@ PROGRAMS = {
     "refusals": [DATA / "shared" / "refusals.c"],
     "alike": [DATA / "shared" / "alike.c"],
     "busy": [DATA / "shared" / "busy.c"],
+    "lost": [DATA / "shared" / "lost.c"],
     "resize": [DATA / "shared" / "resize.c"],
     "orders": [DATA / "shared" / "orders.c"],
     "marks": [DATA / "shared" / "marks.c"],
@@ -127,6 +128,9 @@ class OneThread(SharedTest):
     def test_a_call_that_is_busy_is_gone_on_with_or_given_up(self) -> None:
         self.assert_ran(run(self.built("busy")))
 
+    def test_an_entry_stays_busy_if_its_thread_ended_and_in_a_child(self) -> None:
+        self.assert_ran(run(self.built("lost")))
+
     def test_each_allocation_may_fail_and_the_calls_make_none(self) -> None:
         ran = run(self.built("memory"))
         self.assert_ran(ran, out=None)
@@ -160,6 +164,7 @@ class Hammered(SharedTest):
     def test_a_receipt_that_is_left_out_is_missed_of_threads(self, threads: int) -> None:
         ran = run(self.built("hammer"), str(threads), "30000", "check", "drop")
         self.assert_ran(ran, out=None, status=1)
+        self.assertRegex(ran.out, r" calls, check: NOT WELL\n\Z")
         self.assertRegex(ran.out, r"\nentry 0x[0-9a-f]+: (receipt [0-9]+ of thread [0-9]+ shows|it closes at) stamp ")
 
     def test_threads_meet_at_entries(self) -> None:
@@ -200,7 +205,7 @@ class Archive(ToolTest):
         defined, heap = self.symbols("--defined-only"), {"rattle_alloc", "rattle_realloc", "rattle_dealloc"}
         self.assertEqual(defined, {*declared("SHARED_TABLE"), *heap})
         needed = self.symbols("--undefined-only") - defined
-        self.assertEqual(needed, {"malloc", "realloc", "free", "memcpy", "memset"})
+        self.assertEqual(needed, {"malloc", "realloc", "free", "memcpy"})
 
 
 @needs("make", "pkg-config")

@@ -7,9 +7,11 @@ hit if that cache has the very translation, and else as a walk.
 
 from collections import Counter
 from dataclasses import dataclass, field
+from itertools import chain
 
 from common import Bad
-from recordings import CALL, ENTRY, MASKS, NOMATCH, STAMP, Part, Record, States, in_order
+from papr.numbers import number
+from recordings import CALL, ENTERED, ENTRY, MASKS, NOMATCH, STAMP, WALK, WAS, Part, Record, States, in_order
 from traces import COMMIT, MOST_BYTES, MOST_LINES, PREPARE
 
 CALLS: dict[int, tuple[str, int]] = {
@@ -133,10 +135,38 @@ def ranges_of(head: list[str]) -> list[Range]:
     """The grants of a trace."""
     found = []
     for words in (line.split() for line in head):
-        if words[0] in ("ram", "io"):
-            logical, machine, length = (int(word, 16) for word in words[1:])
-            found.append(Range(logical, logical + length, machine - logical))
+        if words[:1] not in (["ram"], ["io"]):
+            continue
+        numbers = [value for word in words[1:] if (value := number(word)) is not None]
+        if len(numbers) != 3 or len(words) != 4:
+            raise Bad(f"`{' '.join(words)}` at the head of a part is no grant")
+        logical, machine, length = numbers
+        found.append(Range(logical, logical + length, machine - logical))
     return found
+
+
+def fault_of(record: Record) -> str:
+    """What no line of a trace says of a record, if there is such a thing."""
+    answers = [receipt >> 60 for receipt in record.receipts]
+    if record.kind == CALL and record.number not in CALLS:
+        return f"the call {record.number:#x}"
+    if any(answer >= len(ANSWERS) for answer in answers):
+        return "a receipt without an answer"
+    if record.kind != CALL and any(ENTERED <= answer <= WAS for answer in answers):
+        return "a receipt of a call beside none"
+    if record.kind == WALK and record.header >> 24 & 0xFF >= len(WANTS):
+        return "a walk for no access"
+    if record.kind == WALK and record.words[1] >> 62 >= len(SHIFTS):
+        return "a segment of no size"
+    return ""
+
+
+def check(records: list[list[Record]]) -> None:
+    """Refuses records that no trace has."""
+    for record in chain.from_iterable(records):
+        fault = fault_of(record)
+        if fault:
+            raise Bad(f"actor-{record.actor}: no trace has {fault}")
 
 
 class Written:
@@ -220,6 +250,7 @@ def written(part: Part) -> Written:
     made = Written(part.head)
     states = States(part.head)
     for records in part.sections:
+        check(records)
         for record in in_order(records, states):
             made.add(record)
             if record.is_commit:

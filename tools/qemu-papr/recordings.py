@@ -20,7 +20,7 @@ BESIDE_A_CALL = 1 << 41
 ENTRY, STAMP = 2**24 - 1, 2**32 - 1
 
 ENTRY_LINE = re.compile(r"entry old (0x[0-9a-f]+) [0-9a-f]{16}([0-9a-f]{16})")
-UNRECORDED = re.compile(r"unrecorded ([0-9]+)")
+UNRECORDED = re.compile(r"unrecorded ([0-9]{1,20})")
 
 
 @dataclass
@@ -89,6 +89,7 @@ class Actor:
             kind = header & 0xFF
             if kind in (MARK, PART):
                 self.at += 3
+                self.check_end(self.at)
                 return records, End(kind, self.words[self.at - 1])
             records.append(self.record(header, kind))
         return records, End()
@@ -100,11 +101,15 @@ class Actor:
         own = {CALL: 10 + (header >> 16 & 0xFF), WALK: 3, MASKS: 2}[kind]
         begin, receipts = self.at + 2, header >> 8 & 0xFF
         middle, end = begin + own, begin + own + receipts
-        if end > len(self.words):
-            raise Bad(f"actor-{self.number}: its last record is cut off")
+        self.check_end(end)
         self.at = end
         words, made = self.words[begin:middle].tolist(), self.words[middle:end].tolist()
         return Record(self.number, header, self.words[begin - 1], words, made)
+
+    def check_end(self, end: int) -> None:
+        """Refuses a record that ends after the file."""
+        if end > len(self.words):
+            raise Bad(f"actor-{self.number}: its last record is cut off")
 
 
 @dataclass

@@ -1,8 +1,8 @@
 """papr for Python: the hypervisor side of the hashed page table of a paravirtual Power guest, proved.
 
 The package calls libpapr.so.0 and libpapr_bytes.so.0, which `make library` builds. In a checkout it finds them
-in out/lib, and else where the system's loader does; PAPR_SHARED_LIBRARY and PAPR_SHARED_BYTES_LIBRARY name other
-files.
+in out/lib, below a prefix in lib, and else where the system's loader does; PAPR_SHARED_LIBRARY and
+PAPR_SHARED_BYTES_LIBRARY name other files.
 
     >>> import papr
     >>> table = papr.Table(18, [papr.Grant(0x0, 0x2000000000, 0x40000000)])

@@ -4,7 +4,7 @@ import ctypes
 import os
 from functools import cache
 from pathlib import Path
-from typing import Any
+from typing import Any, NamedTuple, Optional
 
 from ._structs import BOOL, I64, SIZE, U8, U32, U64, CAccess, CBusy, CBytesEnd, CDevice, CEntry, CGrant
 from ._structs import CGrants, CMaking, CPage, CPass, CRange, CReceipt, CRehash, CReply, CResize, CSlb, CSlot
@@ -15,6 +15,18 @@ VERSION = (0, 1, 0)  # of the headers that this package was written for
 CALLS, BYTES = "libpapr.so.0", "libpapr_bytes.so.0"
 # Variables that name a file instead.
 VARIABLES = {CALLS: "PAPR_SHARED_LIBRARY", BYTES: "PAPR_SHARED_BYTES_LIBRARY"}
+
+
+class Home(NamedTuple):
+    """A tree that has this package and the libraries too."""
+
+    package: str  # where it has this package
+    others: tuple[str, ...]  # what else it has, by which it is known
+    libraries: str
+
+
+CHECKOUT = Home("bindings/python/papr", ("VERSION", "tools/build"), "out/lib")
+PREFIX = Home("share/papr/papr", ("bin/papr",), "lib")
 
 P = ctypes.POINTER
 TABLE = (P(CEntry), SIZE, U8)  # entries, their count, and the order
@@ -101,10 +113,17 @@ def place_of(name: str) -> str:
     named = os.environ.get(VARIABLES[name])
     if named:
         return named
-    # This file is bindings/python/papr/_library.py of a checkout, or PREFIX/share/papr/papr/_library.py.
-    top = Path(__file__).resolve().parents[3]
-    places = (top / "out" / "lib" / name, top / "lib" / name)
+    places = [folder / name for folder in map(libraries_of, (CHECKOUT, PREFIX)) if folder is not None]
     return next((str(place) for place in places if place.is_file()), name)
+
+
+def libraries_of(home: Home) -> Optional[Path]:
+    """The folder of the libraries, if this package is in such a tree; elsewhere anybody may have made a folder lib."""
+    package = Path(__file__).resolve().parent
+    if not package.match(home.package):
+        return None
+    top = package.parents[2]
+    return top / home.libraries if all((top / other).is_file() for other in home.others) else None
 
 
 def open_library(name: str, kind: type[ctypes.CDLL]) -> ctypes.CDLL:

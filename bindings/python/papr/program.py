@@ -12,6 +12,7 @@ from .replies import Replies
 Text = Union[str, bytes]
 ARGUMENTS = 3  # at most
 LEAST_ROOM, ROOM_FOR_A_BYTE = 4_096, 24  # bytes of output
+MOST_INPUT = 1 << 24  # bytes; more are refused by one line
 
 
 class Verdict(NamedTuple):
@@ -45,7 +46,7 @@ def call(*arguments: str, text: Text = b"") -> tuple[Status, bytes]:
     words = [argument.encode() for argument in arguments]
     given = [*words, *[b""] * (ARGUMENTS - len(words)), bytes_of(text)]
     arrays = [it for data in given for it in ((U8 * len(data)).from_buffer_copy(data), len(data))]
-    room = LEAST_ROOM + ROOM_FOR_A_BYTE * len(given[-1])
+    room = LEAST_ROOM + ROOM_FOR_A_BYTE * min(len(given[-1]), MOST_INPUT)
     while True:
         output = (U8 * room)()
         ended = function("papr_bytes_call")(*arrays, output, room)

@@ -14,7 +14,7 @@ class Entry(NamedTuple):
 
     dword0: int
     dword1: int  # with R and C clear
-    stamp: int  # how often it changed, without R and C that accesses set
+    stamp: int  # how often calls entered, removed or protected it, or cleared its R or C
     valid: bool
     referenced: bool
     changed: bool

@@ -5,6 +5,7 @@ from collections.abc import Iterable, Iterator
 from typing import NamedTuple, Optional
 
 from .errors import BadReplies
+from .numbers import ENTRIES, ORDERS, PROCESSORS, WORDS, decimal, hexadecimal
 from .records import CHANGED, REFERENCED
 
 CHANGES = ("entered", "removed", "protected", "was", "at")
@@ -13,7 +14,20 @@ ON_WINDOWS = ("H_PUT_TCE", "H_GET_TCE", "dmaread", "dmawrite")
 TABLE, WINDOW = "table", "window"
 A_GROUP = 8  # entries
 
-RECEIPT = re.compile(r"0x([0-9a-f]{1,16})\.([0-9]+)\.([0-3])\.([a-z]+)")
+RECEIPT = re.compile(r"(?<!\S)0x([0-9a-f]{1,16})\.([0-9]{1,20})\.([0-3])\.([a-z]+)(?!\S)")
+SHOWN = 60  # characters of a line in a message
+
+
+class Mark(NamedTuple):
+    """What a reply shows of a receipt: the entry, its stamp, R (2) and C (1) before, and the answer."""
+
+    entry: int
+    stamp: int
+    bits: int
+    answer: str
+
+    def __str__(self) -> str:
+        return f"{self.entry:#x}.{self.stamp}.{self.bits}.{self.answer}"
 
 
 class ReceiptRow(NamedTuple):
@@ -162,21 +176,56 @@ def store_of(call: str, ending: str, words: list[str], answers: list[str]) -> st
     return WINDOW if is_on_window else TABLE
 
 
+def mark_of(word: str) -> Optional[Mark]:
+    """The mark `ENTRY.STAMP.BITS.ANSWER`, or nothing if the word is none."""
+    found = RECEIPT.fullmatch(word)
+    if found is None:
+        return None
+    mark = Mark(int(found[1], 16), int(found[2]), int(found[3]), found[4])
+    return mark if mark.entry < ENTRIES and mark.stamp < WORDS else None
+
+
+def bad(what: str, text: str) -> BadReplies:
+    """That a text isn't what it should be."""
+    return BadReplies(f"this is no {what}: {text.strip()[:SHOWN]}")
+
+
+def has_bounds(receipt: Receipt) -> bool:
+    """Whether a trace's table may have such an entry, with such a stamp."""
+    return receipt.entry < ENTRIES and receipt.stamp < WORDS
+
+
+def dump_of(text: str, table: int, line: int, words: list[str]) -> Reply:
+    """The reply to a dump: `table T order S place P entries K`."""
+    names, values = words[0::2], words[1::2]
+    if names != ["table", "order", "place", "entries"] or len(values) != len(names):
+        raise bad("reply", text)
+    numbers = decimal(values[0]), decimal(values[1]), hexadecimal(values[2]), decimal(values[3])
+    if None in numbers or numbers[1] not in ORDERS:
+        raise bad("reply", text)
+    return Reply(table, line, None, "dump", "ok", words, [])
+
+
 def reply_of(text: str, table: int) -> Reply:
     """The reply that a line of the output has."""
     head, _, tail = text.partition(" |")
     words = head.split()
-    if len(words) > 2 and words[0].isdigit() and words[1] == "dump":
-        return Reply(table, int(words[0]), None, "dump", "ok", words[2:], [])
-    if len(words) < 4 or not (words[0].isdigit() and words[1].isdigit()):
-        raise BadReplies(f"this is no reply: {text.strip()[:60]}")
-    line, cpu, call = int(words[0]), int(words[1]), words[2]
+    line = decimal(words[0]) if len(words) >= 4 else None
+    if line is None:
+        raise bad("reply", text)
+    if words[1] == "dump":
+        return dump_of(text, table, line, words[2:])
+    cpu, call = decimal(words[1], PROCESSORS), words[2]
+    if cpu is None or call == "dump":  # no processor makes a dump
+        raise bad("reply", text)
     found = RECEIPT.findall(tail)
     store = store_of(call, words[3], words[4:], [answer for *_state, answer in found])
     receipts = [
         Receipt(table, line, cpu, call, int(entry, 16), int(stamp), int(bits), answer, store)
         for entry, stamp, bits, answer in found
     ]
+    if len(receipts) < len(tail.split()) or not all(map(has_bounds, receipts)):
+        raise bad("reply", text)
     return Reply(table, line, cpu, call, words[3], words[4:], receipts, store)
 
 
@@ -184,11 +233,12 @@ def shown_of(line: str) -> Shown:
     """The entry that a further line of a dump shows."""
     words = line.split()
     if len(words) != 4:
-        raise BadReplies(f"this is no entry of a dump: {line.strip()[:60]}")
-    try:
-        return Shown(int(words[0], 16), int(words[1], 16), int(words[2], 16), int(words[3]))
-    except ValueError as error:
-        raise BadReplies(f"this is no entry of a dump: {line.strip()[:60]}") from error
+        raise bad("entry of a dump", line)
+    entry, dword0, dword1 = hexadecimal(words[0], ENTRIES), hexadecimal(words[1]), hexadecimal(words[2])
+    stamp = decimal(words[3])
+    if entry is None or dword0 is None or dword1 is None or stamp is None:
+        raise bad("entry of a dump", line)
+    return Shown(entry, dword0, dword1, stamp)
 
 
 def replies_of(text: Iterable[str]) -> Iterator[tuple[Reply, list[Shown]]]:

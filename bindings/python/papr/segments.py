@@ -3,13 +3,14 @@
 from typing import Optional
 
 from ._library import function
+from ._owned import NotCopied
 from ._structs import CSlb
 from .codes import SlotRefusal
 from .errors import SlotRefused
 from .records import Slot, slot_of
 
 
-class Segments:
+class Segments(NotCopied):
     """A segment lookaside buffer of 32 slots, all invalid at first."""
 
     def __init__(self) -> None:

@@ -2,18 +2,20 @@
 
 import threading
 import time
-from collections import deque
 from collections.abc import Callable
 from functools import partial
 from types import TracebackType
 from typing import Any, Optional, ParamSpec, TypeVar, cast
+from weakref import ref
 
 from ._calls import Calls
 from ._library import function
+from ._opened import Opened, PassOut
+from ._owned import NotCopied
 from ._room import Room
 from ._structs import CAccess, CPass, CWalk, struct_of
 from .codes import Code, Hold
-from .errors import Busy, PaprError, PassRefused
+from .errors import Busy, PassRefused
 from .grants import Grants
 from .records import Access, HeldUp, Reply, Walk, held_up_of
 from .table import Table
@@ -27,12 +29,6 @@ Arguments = ParamSpec("Arguments")
 Answer = TypeVar("Answer", Reply, Walk)
 
 
-def raise_for_pass(what: str, code: int) -> None:
-    """Raises why the library refuses this."""
-    if code != Code.H_SUCCESS:
-        raise PassRefused(what, Code(code))
-
-
 def give_way(tries: int) -> None:
     """Lets the thread go on that is at an entry: at first at once, then by yields, and then by sleeps."""
     if tries > YIELDS:
@@ -41,11 +37,12 @@ def give_way(tries: int) -> None:
         time.sleep(0)
 
 
-class SharedTable:
+class SharedTable(NotCopied):
     """The entries of a table, for several threads at once with no lock around the calls.
 
     It takes the entries of the table, and close() gives them back as the threads left them. In between the table
-    has none. split() and close() may be called by any thread.
+    has none. split() and close() may be called by any thread. If nobody has it and its passes any more, the entries
+    go back by themselves.
 
     >>> table = Table(18, [Grant(0x0, 0x2000000000, 0x40000000)])
     >>> with SharedTable(table) as shared, shared.split() as mine:
@@ -58,19 +55,9 @@ class SharedTable:
 
         PassRefused: H_NO_MEM, or H_PARAMETER if the table is shared already.
         """
-        self._pass = CPass()
         if not 1 <= passes <= MOST_PASSES:
             raise ValueError(f"a shared table has 1 to {MOST_PASSES} passes, and not {passes}")
-        self._table, self._entries = table, table._exchange_entries()
-        self._lock = threading.Lock()
-        self._returned: deque[CPass] = deque()
-        try:
-            call = function("papr_open")
-            code = call(self._entries, len(self._entries), table.order, passes + 1, self._pass)
-            raise_for_pass("the table isn't shared", code)
-        except PaprError:
-            table._exchange_entries(self._entries)
-            raise
+        self._table, self._opened = table, Opened(table, passes)
 
     @property
     def grants(self) -> Grants:
@@ -80,43 +67,20 @@ class SharedTable:
     @property
     def is_open(self) -> bool:
         """Whether it isn't closed yet."""
-        return bool(self._pass.live)
+        return self._opened.is_open
 
     def split(self) -> "Pass":
         """A new pass.
 
         PassRefused: H_RESOURCE if all passes are out, H_NO_MEM, or H_PARAMETER if the table is closed.
         """
-        made = CPass()
-        with self._lock:
-            self._gather()
-            raise_for_pass("there is no other pass", function("papr_split")(self._pass, made))
-        return Pass(self, made)
+        made = Pass(self._opened, self.grants)
+        self._opened.split(PassOut(ref(made), made._pass, made._lock))
+        return made
 
     def close(self) -> None:
         """Gives the entries back; nothing if it is closed. PassRefused: H_RESOURCE if passes are out."""
-        with self._lock:
-            if self.is_open:
-                self._gather()
-                code = function("papr_close")(self._pass, self._entries, len(self._entries))
-                raise_for_pass("the table isn't closed", code)
-                self._table._exchange_entries(self._entries)
-
-    def _join(self, other: CPass) -> None:
-        """Takes a pass of the library back."""
-        with self._lock:
-            raise_for_pass("the pass isn't joined", function("papr_join")(self._pass, other))
-
-    def _leave(self, other: CPass) -> None:
-        """Keeps a pass of the library until the next call takes it back: the lock may be held now."""
-        self._returned.append(other)
-
-    def _gather(self) -> None:
-        """Takes back the passes that nobody has any more."""
-        while self._returned:
-            other = self._returned.popleft()
-            function("papr_give_up")(other)
-            raise_for_pass("a pass isn't joined", function("papr_join")(self._pass, other))
+        self._opened.close()
 
     def __enter__(self) -> "SharedTable":
         return self
@@ -134,13 +98,8 @@ class SharedTable:
             if error is None:
                 raise
 
-    def __del__(self) -> None:
-        """Gives the entries back. All passes are back here, since each holds its table."""
-        if self.is_open:
-            self.close()
 
-
-class Pass(Calls):
+class Pass(NotCopied, Calls):
     """The right of one thread to work on a shared table: its calls and walks are those of Table.
 
     If another thread is at an entry, a call raises Busy. The pass keeps the call then, and again() goes on with
@@ -149,10 +108,10 @@ class Pass(Calls):
     that nobody has any more goes back to the table by itself, and a call that it had to go on with is given up.
     """
 
-    def __init__(self, table: SharedTable, made: CPass) -> None:
-        """The pass that the library made; SharedTable.split() calls this."""
-        self._table, self._pass, self._room, self._lock = table, made, Room(), threading.Lock()
-        self.grants = table.grants
+    def __init__(self, opened: Opened, grants: Grants) -> None:
+        """A pass that is closed; SharedTable.split() calls this, and opens it."""
+        self._opened, self._pass, self._room, self._lock = opened, CPass(), Room(), threading.Lock()
+        self.grants = grants
 
     # ---- the calls
 
@@ -256,7 +215,7 @@ class Pass(Calls):
         """
         with self._lock:
             if self._pass.live:
-                self._table._join(self._pass)
+                self._opened.join(self._pass)
 
     def __enter__(self) -> "Pass":
         return self
@@ -265,7 +224,3 @@ class Pass(Calls):
         """Gives up the call that is busy, if there is one, and gives the pass back."""
         self.give_up()
         self.join()
-
-    def __del__(self) -> None:
-        if self._pass.live:
-            self._table._leave(self._pass)

@@ -2,7 +2,7 @@
 
 from collections.abc import Iterable, Iterator
 from ctypes import sizeof
-from mmap import mmap
+from mmap import MAP_ANONYMOUS, MAP_PRIVATE, mmap
 from typing import Any, Optional
 
 from ._calls import Calls
@@ -17,22 +17,29 @@ from .records import entry_of, page_of, rehash_of
 
 ORDERS = range(18, 35)
 AN_ENTRY = 16  # bytes, in a guest's table and in an export
+NO_ENTRIES = (CEntry * 0)()
 
 
 def entries_of(order: int) -> Any:
-    """The empty entries of a table of 2^order bytes."""
+    """The empty entries of a table of 2^order bytes; MemoryError where there is no memory for them."""
     if order not in ORDERS:
         raise ValueError(f"the order is from {ORDERS[0]} to {ORDERS[-1]}, and not {order}")
     entries = CEntry * ((1 << order) // AN_ENTRY)
-    # Memory that is made as it is touched: a large table of which little is used is a small one.
-    return entries.from_buffer(mmap(-1, sizeof(entries)))
+    try:
+        # Memory that is made as it is touched: a large table of which little is used is a small one. It is private:
+        # after a fork each process has entries of its own.
+        memory = mmap(-1, sizeof(entries), flags=MAP_PRIVATE | MAP_ANONYMOUS)
+    except OSError as error:
+        raise MemoryError(f"there is no memory for a table of 2^{order} bytes") from error
+    return entries.from_buffer(memory)
 
 
 class Table(Calls):
     """A table of 2^order bytes with its entries, and the memory that is granted to its guest.
 
     One call at a time: threads take a lock of their own, or a SharedTable. While it is shared, the table itself
-    has no entries, and its calls answer H_PARAMETER.
+    has no entries, and its calls answer H_PARAMETER. After a fork parent and child have a table each. A copy, by
+    `copy` or by `pickle`, is a table of its own too; TypeError while the table is shared.
 
     >>> table = Table(18, [Grant(0x0, 0x2000000000, 0x40000000)])
     >>> print(table.h_enter(Flag.EXACT, 0x27, 0x1001, 0x3012))
@@ -40,11 +47,27 @@ class Table(Calls):
     """
 
     def __init__(self, order: int = 18, grants: "Grants | Iterable[Grant]" = ()) -> None:
-        """An empty table."""
+        """An empty table. MemoryError: there is no memory for its entries, which take 24 bytes each."""
         self._order, self._entries = order, entries_of(order)
         self.grants = grants_of(grants)
-        self._pending, self._pending_entries = CResize(), (CEntry * 0)()
+        self._pending, self._pending_entries = CResize(), NO_ENTRIES
         self._room = Room()
+
+    # ---- copies
+
+    def __getstate__(self) -> dict[str, Any]:
+        """What a copy is made of: the memory that calls write is there as bytes."""
+        if not self._entries:
+            raise TypeError(f"a {type(self).__name__} can't be copied or pickled while it is shared")
+        memory = {name: bytes(getattr(self, name)) for name in ("_entries", "_pending", "_pending_entries")}
+        return {**vars(self), **memory, "_room": None}
+
+    def __setstate__(self, state: dict[str, Any]) -> None:
+        """Makes a copy, with memory of its own."""
+        vars(self).update(state, _room=Room(), _pending=CResize.from_buffer_copy(state["_pending"]))
+        for name in ("_entries", "_pending_entries"):
+            data = state[name]
+            setattr(self, name, (CEntry * (len(data) // sizeof(CEntry))).from_buffer_copy(data))
 
     # ---- entries
 
@@ -75,15 +98,16 @@ class Table(Calls):
         """What an entry says."""
         return decode(self._order, index, *self[index].doublewords)
 
-    def _exchange_entries(self, entries: Any = ()) -> Any:
+    def _exchange_entries(self, entries: Any = NO_ENTRIES) -> Any:
         """Takes the entries out of the table, and puts these in."""
-        taken, self._entries = self._entries, entries or (CEntry * 0)()
+        taken, self._entries = self._entries, entries
         return taken
 
     @property
     def _table(self) -> tuple[Any, int, int]:
         """What the library takes for the table."""
-        return self._entries, len(self._entries), self._order
+        entries = self._entries  # once: the collector may give the entries of a shared table back in between
+        return entries, len(entries), self._order
 
     # ---- the calls
 
@@ -116,26 +140,49 @@ class Table(Calls):
         """
         if not 0 <= first <= len(self):
             raise IndexError(f"there is no entry {first:#x}")
-        indexes = (U32 * (len(self) if room is None else room))()
+        most = len(self) - first
+        indexes = (U32 * (most if room is None else min(room, most)))()
         taken = function("papr_take_changed")(*self._table, first, indexes, len(indexes))
         return Taken(tuple(indexes[: taken.count]), taken.next)
 
     # ---- the rehash and the resize calls
 
     def rehashed(self, order: int) -> tuple[Rehash, "Table"]:
-        """A table of another order with the bolted entries of this one; at H_PTEG_FULL it is empty."""
+        """A table of another order with the bolted entries of this one; at H_PTEG_FULL it is empty.
+
+        MemoryError: there is no memory for a table of that order.
+        """
         into = Table(order, self.grants)
         return rehash_of(function("papr_rehash")(*self._table, *into._table)), into
 
     def h_resize_hpt_prepare(self, flags: int, shift: int, limit: int = ORDERS[-1]) -> Code:
-        """H_RESIZE_HPT_PREPARE: makes 16,384 more entries of a pending table ready; `limit` is the highest shift."""
-        into = self._pending_entries
-        if not self._is_pending(shift):
-            into = entries_of(shift) if shift in ORDERS else (CEntry * 0)()
+        """H_RESIZE_HPT_PREPARE: makes 16,384 more entries of a pending table ready; `limit` is the highest shift.
+
+        No memory is taken for a call that is refused. H_NO_MEM: there is none for a table of 2^shift bytes.
+        """
+        if self._is_pending(shift):
+            return self._prepare(flags, shift, limit, self._pending_entries)
+        # Without entries the library answers H_NO_MEM to a call that it doesn't refuse, and nothing is pending then.
+        answer = self._prepare(flags, shift, limit, NO_ENTRIES)
+        if answer is not Code.H_NO_MEM:
+            return answer
+        try:
+            return self._prepare(flags, shift, limit, entries_of(shift))
+        except MemoryError:
+            return Code.H_NO_MEM
+
+    def _prepare(self, flags: int, shift: int, limit: int, into: Any) -> Code:
+        """The same call with these entries for the pending table."""
         answer = function("papr_resize_prepare")(self._pending, limit, flags, shift, into, len(into))
         if self._is_pending(shift):
             self._pending_entries = into
+        self._free_what_is_not_pending()
         return Code(answer)
+
+    def _free_what_is_not_pending(self) -> None:
+        """Frees the entries of a pending table that was dropped or committed."""
+        if not self._pending.pending:
+            self._pending_entries = NO_ENTRIES
 
     def _is_pending(self, shift: int) -> bool:
         """Whether a table of this order is pending."""
@@ -148,6 +195,7 @@ class Table(Calls):
         ended = rehash_of(call(self._pending, *self._table, into, len(into), flags, shift))
         if ended.code is Code.H_SUCCESS:
             self._order, self._entries = shift, into
+        self._free_what_is_not_pending()
         return ended
 
     # ---- entries as bytes
@@ -155,7 +203,7 @@ class Table(Calls):
     def export_entries(self, layout: Layout = Layout.OLD, first: int = 0, number: Optional[int] = None) -> bytes:
         """Entries from `first` on as 16 bytes each, R and C in them; all that follow where no number is given."""
         number = len(self) - first if number is None else number
-        out = (U8 * max(AN_ENTRY * number, 0))()
+        out = (U8 * (AN_ENTRY * max(0, min(number, len(self)))))()  # for more the library refuses it
         made = function("papr_export")(*self._table, layout, first, number, out, len(out))
         raise_for_transfer(made)
         return bytes(out)

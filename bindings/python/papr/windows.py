@@ -3,6 +3,7 @@
 from collections.abc import Iterable
 
 from ._library import function
+from ._owned import NotCopied
 from ._room import Room
 from ._structs import CEntry
 from .codes import DeviceOutcome
@@ -12,7 +13,7 @@ from .records import DeviceAccess, Grant, Reply
 PAGES = range(1, 16_385)
 
 
-class Window:
+class Window(NotCopied):
     """A DMA window: an entry for each of its pages of 4,096 bytes, from the bus address `base` on."""
 
     def __init__(self, base: int, pages: int, grants: "Grants | Iterable[Grant]" = ()) -> None:

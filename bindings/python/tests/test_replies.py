@@ -35,6 +35,18 @@ class Records(unittest.TestCase):
             with self.assertRaises(BadReplies):
                 list(Replies(text))
 
+    def test_numbers_are_of_ascii_digits_and_below_their_bounds(self) -> None:
+        reply = "{} {} H_ENTER 0 0x20 | {}.{}.0.entered\n"
+        good = ["4", "63", "0x3ffff", str(2**64 - 1)]
+        (read,) = Replies(reply.format(*good))
+        self.assertEqual(read.receipts[0][:2] + read.receipts[0][4:6], (0, 4, 0x3FFFF, 2**64 - 1))
+        past = str(2**64)
+        wrong = [("\u00b2", "1_0", past), ("64", "-1"), ("0x40000", "0x2_0"), (past, "7" * 5_000)]
+        for place, words in enumerate(wrong):
+            for word in words:
+                with self.subTest(word=word[:30]), self.assertRaises(BadReplies):
+                    list(Replies(reply.format(*good[:place], word, *good[place + 1 :])))
+
     def test_resizes_are_counted(self) -> None:
         tables = {receipt.table for receipt in Replies(text_of("resize.replies")).receipts()}
         commits = text_of("resize.replies").count("H_RESIZE_HPT_COMMIT 0")

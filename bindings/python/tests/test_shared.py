@@ -2,11 +2,9 @@
 
 import ctypes
 import gc
-import os
 import random
 import shutil
 import subprocess
-import sys
 import tempfile
 import threading
 import time
@@ -16,7 +14,7 @@ from pathlib import Path
 from typing import ClassVar, Optional
 
 from history import GROUP, Made, draw, faults
-from support import GRANTS, TOP, needs_shared_table
+from support import GRANTS, SHORT_OF_MEMORY, TOP, needs_limits, needs_shared_table, said_by
 
 from papr import Access, Answer, Busy, Code, Entry, Flag, Hcall, HeldUp, Hold, Outcome, Pass, PassRefused
 from papr import Receipt, Reply, SharedTable, Table
@@ -29,18 +27,15 @@ THREADS, CALLS = 4, 2_000
 PATIENCE = 60  # seconds until threads have met
 
 # Opens a table where there is no memory for it, and then where there is.
-NO_MEMORY = """
-import resource, papr
+NO_MEMORY = f"""{SHORT_OF_MEMORY}
 table = papr.Table(22)
 papr.SharedTable(papr.Table(18), 1).close()
-pages = int(open("/proc/self/statm").read().split()[0])
-most = resource.getrlimit(resource.RLIMIT_AS)[1]
-resource.setrlimit(resource.RLIMIT_AS, (pages * resource.getpagesize() + (4 << 20), most))
+leave(4 << 20)
 try:
     papr.SharedTable(table, 1)
 except papr.PassRefused as refused:
     print(refused.code.name, len(table))
-resource.setrlimit(resource.RLIMIT_AS, (most, most))
+leave(0)
 with papr.SharedTable(table, 1) as shared, shared.split() as mine:
     print(mine.h_read(0, 0))
 """
@@ -155,19 +150,11 @@ class Passes(SharedTest):
         self.assertEqual([at for at, _ in self.table.valid_entries()], [0x21])
 
     def test_a_process_may_end_with_an_open_table(self) -> None:
-        self.assertEqual(self.said_by(LEFT_OPEN), "0 0x0 0x0 | 0x0.0.0.read\n")
+        self.assertEqual(said_by(self, LEFT_OPEN), "0 0x0 0x0 | 0x0.0.0.read\n")
 
-    @unittest.skipUnless(sys.platform == "linux", "the limit of memory is that of Linux")
+    @needs_limits
     def test_want_of_memory_leaves_all_as_it_was(self) -> None:
-        self.assertEqual(self.said_by(NO_MEMORY), "H_NO_MEM 262144\n0 0x0 0x0 | 0x0.0.0.read\n")
-
-    def said_by(self, script: str) -> str:
-        """What a script writes in a Python of its own."""
-        words = [sys.executable, "-c", script]
-        variables = {**os.environ, "PYTHONPATH": os.pathsep.join(sys.path)}
-        ran = subprocess.run(words, env=variables, capture_output=True, text=True, check=False)
-        self.assertEqual((ran.returncode, ran.stderr), (0, ""))
-        return ran.stdout
+        self.assertEqual(said_by(self, NO_MEMORY), "H_NO_MEM 262144\n0 0x0 0x0 | 0x0.0.0.read\n")
 
 
 @needs_shared_table
@@ -326,6 +313,21 @@ class AtABusyEntry(SharedTest):
         self.mine.give_up()
         self.assertEqual(self.mine.again(), Reply(Code.H_PARAMETER, (), (), False))
         self.assertEqual(self.mine.h_read(0, 0x21).words, (0x2001, 0x4012))
+
+    def test_a_pass_in_a_call_is_still_out(self) -> None:
+        """The library has the pass then, so that it looks closed."""
+        table = Table(18, GRANTS)
+        table.h_enter(Flag.EXACT, ENTRY, 0x1001, 0x3012)
+        shared = SharedTable(table, 3)
+        mine, theirs = shared.split(), shared.split()
+        protecting = Protecting(theirs, self.library)
+        self.busy(lambda: mine.h_read(0, ENTRY))
+        for _ in range(100):
+            shared.split().join()
+        protecting.end()
+        del mine, theirs
+        shared.close()
+        self.assertGreater(table[ENTRY].stamp, 1)
 
     def test_leaving_a_pass_gives_its_call_up(self) -> None:
         with self.mine:

@@ -1,7 +1,7 @@
 -- Grants in order of their logical ranges, and the one of them that holds a range.
 use Rattle.std.specs.Prelude.{option_map, AllPairs}
 use Rattle.std.proofs.Common.{◌≡◌, ◌≢◌, ℕ, zero, suc, ◌+◌, ◌-◌, ◌<◌, ◌≤◌, ◌==◌, List, [], ◌∷◌, ◌++◌, length, map, nat_le, take, set, get_or, find, Bool, true, false, if◌then◌else◌, Some, None, refl, sym, ap, subst, ◌∙◌, arith, ◌⊎◌, inl, inr, nat_lt}
-use Rattle.std.proofs.lemmas.Bool.{cases_Bool, cases_lt, and_left, and_right, lt-ltb, ne_eqb}
+use Rattle.std.proofs.lemmas.Bool.{cases_Bool, cases_lt, and_left, and_right, lt-ltb, ne_eqb, le-leb}
 use Rattle.std.proofs.lemmas.Bool.Decides.{leb_tells}
 use Rattle.std.proofs.lemmas.List.Elements.{All-get_or}
 use Rattle.std.proofs.lemmas.List.{get_or-map, length-map, get_or-take, length-take-le}
@@ -9,9 +9,9 @@ use Rattle.std.proofs.Math.Seq.{take-suc-set, take-suc}
 use Rattle.std.proofs.Math.Numerals.{add-one}
 use Rattle.basics.proofs.Lists.{AllPairs-head, AllPairs-tail}
 use Rattle.frame_grants.specs.declared.grant.Grant.{Grant}
-use Rattle.frame_grants.specs.Grants.{no_grant, holds, machine_at, machine_range, meets_logical, IsPlaced}
+use Rattle.frame_grants.specs.Grants.{no_grant, holds, machine_at, machine_range, meets_logical, most_grants, IsPlaced}
 use Rattle.c_layout.specs.declared.grants.PaprGrant.{PaprGrant}
-use Rattle.c_layout.specs.Grants.{fields_at, grant_of, no_fields, listed, IsInOrder, AreListed}
+use Rattle.c_layout.specs.Grants.{fields_at, grant_of, no_fields, first_grants, listed, IsInOrder, AreListed}
 use Rattle.pool_range.specs.Ranges.{address_end}
 
 -- ---- a list in which at most one element passes
@@ -64,7 +64,7 @@ pub listed_at :
     (grants : List PaprGrant) (count k : ℕ)
     → count ≤ length grants
     → k < count
-    → get_or (listed grants count) k no_grant ≡ grant_of (fields_at grants k)
+    → get_or (first_grants grants count) k no_grant ≡ grant_of (fields_at grants k)
 listed_at grants count k room inside =
     let long : length (take count grants) ≡ count = length-take-le count grants room in
     get_or-map grant_of (take count grants) k no_fields no_grant (omega (arith, long))
@@ -73,9 +73,34 @@ listed_at grants count k room inside =
 listed_long :
     (grants : List PaprGrant) (count : ℕ)
     → count ≤ length grants
-    → length (listed grants count) ≡ count
+    → length (first_grants grants count) ≡ count
 listed_long grants count room =
     length-map (take count grants) grant_of ∙ length-take-le count grants room
+
+not_le : (a b : ℕ) → b < a → nat_le a b ≡ false
+not_le a b less = at (leb_tells a b) where
+  at : ((nat_le a b ≡ true) × (a ≤ b)) ⊎ ((nat_le a b ≡ false) × (b < a)) → nat_le a b ≡ false
+  at (inl held) = absurd (omega (arith, less, held.1))
+  at (inr past) = past.0
+
+-- A list with a count that it has room for has its first grants.
+pub listed_few :
+    (grants : List PaprGrant) (count : ℕ)
+    → count ≤ most_grants
+    → listed grants count ≡ first_grants grants count
+listed_few grants count few = rw (le-leb count most_grants few) refl
+
+-- A list with a greater count grants nothing.
+pub machine_many :
+    (grants : List PaprGrant) (count logical bytes : ℕ)
+    → most_grants < count
+    → machine_range (listed grants count) logical bytes ≡ None
+unfolding machine_range
+machine_many grants count logical bytes many =
+    rw (not_le count most_grants many) (at (cases_Bool (bytes == 0))) where
+      at : ((bytes == 0) ≡ true) ⊎ ((bytes == 0) ≡ false) → machine_range [] logical bytes ≡ None
+      at (inl none) = rw none refl
+      at (inr some) = rw some refl
 
 -- With one grant more the first grants are still those of the list.
 pub listed_more :
@@ -194,12 +219,6 @@ below_more grants count middle logical order inside below k less = at (cases_lt 
       subst (λ (m : ℕ). (fields_at grants m).logical ≤ logical) same below
 
 -- ---- the grant that holds a range
-not_le : (a b : ℕ) → b < a → nat_le a b ≡ false
-not_le a b less = at (leb_tells a b) where
-  at : ((nat_le a b ≡ true) × (a ≤ b)) ⊎ ((nat_le a b ≡ false) × (b < a)) → nat_le a b ≡ false
-  at (inl held) = absurd (omega (arith, less, held.1))
-  at (inr past) = past.0
-
 holds_not :
     (logical length : ℕ) (g : PaprGrant)
     → g.logical ≤ logical
@@ -251,9 +270,9 @@ fails_at :
     → count ≤ length grants
     → ((k : ℕ) → k < count → skipped k → p (grant_of (fields_at grants k)) ≡ false)
     → (k : ℕ)
-    → k < length (listed grants count)
+    → k < length (first_grants grants count)
     → skipped k
-    → p (get_or (listed grants count) k no_grant) ≡ false
+    → p (get_or (first_grants grants count) k no_grant) ≡ false
 fails_at p grants count skipped room fails k inside other =
     let below : k < count = omega (arith, inside, listed_long grants count room) in
     ap p (listed_at grants count k room below) ∙ fails k below other
@@ -266,20 +285,21 @@ pub machine_none :
     → count ≤ length grants
     → IsInOrder grants count
     → IsCountBelow grants count logical 0
-    → machine_range (listed grants count) logical bytes ≡ None
+    → machine_range (first_grants grants count) logical bytes ≡ None
 unfolding machine_range
 machine_none grants count logical bytes room order counted = at (cases_lt 0 bytes) where
-  at : (0 < bytes) ⊎ (bytes ≤ 0) → machine_range (listed grants count) logical bytes ≡ None
+  at : (0 < bytes) ⊎ (bytes ≤ 0) → machine_range (first_grants grants count) logical bytes ≡ None
   at (inl some) =
-      let none : find (holds logical bytes) (listed grants count) ≡ None =
-      find_none (holds logical bytes) (listed grants count) no_grant
+      let none : find (holds logical bytes) (first_grants grants count) ≡ None =
+      find_none (holds logical bytes) (first_grants grants count) no_grant
       (λ k inside.
       fails_at (holds logical bytes) grants count (λ j. suc j ≢ 0) room
       (λ j below other.
       others_fail grants count logical bytes 0 j order counted some below other) k inside
       (λ e. omega (arith, e))) in
       if_zero bytes None
-      (option_map (machine_at logical) (find (holds logical bytes) (listed grants count))) some
+      (option_map (machine_at logical) (find (holds logical bytes) (first_grants grants count)))
+      some
       ∙ ap (option_map (machine_at logical)) none
   at (inr zero_bytes) =
       let no_bytes : bytes ≡ 0 = omega arith in
@@ -299,15 +319,15 @@ pub machine_by :
     → IsInOrder grants count
     → IsCountBelow grants count logical (suc last)
     → 0 < bytes
-    → machine_range (listed grants count) logical bytes
+    → machine_range (first_grants grants count) logical bytes
     ≡
     (if holds logical bytes (grant_of (fields_at grants last)) then Some
     (machine_at logical (grant_of (fields_at grants last))) else None)
 unfolding machine_range
 machine_by grants count logical bytes last room order counted some =
-    let inside : last < length (listed grants count) = omega
+    let inside : last < length (first_grants grants count) = omega
     (arith, listed_long grants count room, counted.bound) in
-    let only = find_only (holds logical bytes) (listed grants count) no_grant last inside
+    let only = find_only (holds logical bytes) (first_grants grants count) no_grant last inside
     (λ k below ne.
     fails_at (holds logical bytes) grants count (λ j. suc j ≢ suc last) room
     (λ j within other.
@@ -315,9 +335,9 @@ machine_by grants count logical bytes last room order counted some =
     below (λ e. ne (omega (arith, e)))) in
     let here = listed_at grants count last room (omega (arith, counted.bound)) in
     if_zero bytes None
-    (option_map (machine_at logical) (find (holds logical bytes) (listed grants count))) some
+    (option_map (machine_at logical) (find (holds logical bytes) (first_grants grants count))) some
     ∙ ap (option_map (machine_at logical)) only
-    ∙ pushed (holds logical bytes) (get_or (listed grants count) last no_grant)
+    ∙ pushed (holds logical bytes) (get_or (first_grants grants count) last no_grant)
     (grant_of (fields_at grants last)) here where
       pushed :
           (p : Grant → Bool) (g h : Grant)
@@ -341,7 +361,7 @@ pub machine_last :
     → IsCountBelow grants count logical below
     → 0 < below
     → 0 < bytes
-    → machine_range (listed grants count) logical bytes
+    → machine_range (first_grants grants count) logical bytes
     ≡
     (if holds logical bytes (grant_of (fields_at grants (below - 1))) then Some
     (machine_at logical (grant_of (fields_at grants (below - 1)))) else None)

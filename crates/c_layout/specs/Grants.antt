@@ -1,9 +1,9 @@
 -- Grants as C has them: a list that is checked once, sorted, and searched by halving.
-use Rattle.std.specs.Prelude.{◌≡◌, ◌<◌, ◌≤◌, ◌+◌, ℕ, Bool, false, if◌then◌else◌, List, map, take, slice_index_or, All, AllPairs}
+use Rattle.std.specs.Prelude.{◌≡◌, ◌<◌, ◌≤◌, ◌+◌, ℕ, nat_le, Bool, false, if◌then◌else◌, List, [], map, take, slice_index_or, All, AllPairs}
 use Rattle.frame_grants.specs.declared.grant.Grant.{Grant}
 use Rattle.frame_grants.specs.declared.grant.Kind.{Kind}
 use Rattle.frame_grants.specs.declared.grant.Kind.TheVariants.{Ram, Io}
-use Rattle.frame_grants.specs.Grants.{IsPlaced, meets_logical}
+use Rattle.frame_grants.specs.Grants.{IsPlaced, meets_logical, most_grants}
 use Rattle.c_layout.specs.declared.grants.PaprGrant.{PaprGrant}
 use Rattle.pool_range.specs.Ranges.{address_end}
 
@@ -49,6 +49,11 @@ pub record AreListed (grants : List Grant) : Type 0 where
   pub rising : AllPairs (λ (lower higher : Grant). lower.logical < higher.logical) grants
   pub apart : AllPairs (λ (lower higher : Grant). meets_logical lower higher ≡ false) grants
 
--- The grants of a list, which are its first `count`.
+-- The first grants of a list.
+abbrev pub first_grants : List PaprGrant → ℕ → List Grant
+first_grants grants count = map grant_of (take count grants)
+
+-- The grants of a list, which are its first `count`. A list that says that it has more than there
+-- is room for has none.
 abbrev pub listed : List PaprGrant → ℕ → List Grant
-listed grants count = map grant_of (take count grants)
+listed grants count = if nat_le count most_grants then first_grants grants count else []

@@ -70,7 +70,7 @@ impl PaprGrant {
 }
 
 /// A list of at most 64 grants that was checked, in order of logical address. All zero is the list
-/// of none.
+/// of none. One whose count is above 64 grants nothing, whatever its grants are.
 #[repr(C)]
 #[derive(Clone, Copy)]
 pub struct PaprGrants {
@@ -79,8 +79,8 @@ pub struct PaprGrants {
     /// How many there are: 0 to 64.
     pub count: u32,
 
-    ghost few: { count ≤ length grants },
-    ghost in_order: { IsInOrder grants count },
+    ghost room: { length grants ≡ most_grants },
+    ghost in_order: { count ≤ most_grants → IsInOrder grants count },
 }
 
 impl PaprGrants {
@@ -103,6 +103,7 @@ impl PaprGrants {
     /// How many grants begin at or below the address. The list is halved, so this takes at most
     /// seven looks.
     fn count_below(&self, logical: u64) -> usize
+        requires few { self.now.count ≤ most_grants }
         ensures bound { result ≤ self.now.count }
         ensures below { (k : ℕ)
             → k < result
@@ -130,6 +131,9 @@ impl GrantedMemory for PaprGrants {
     ghost grants = { λ list. listed list.grants list.count };
 
     fn machine_of(&self, logical: u64, length: u64) -> Option<(u64, Kind)> {
+        if self.count > MOST_GRANTS as u32 {
+            return None;
+        }
         if length == 0 {
             return None;
         }

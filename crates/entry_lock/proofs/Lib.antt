@@ -16,6 +16,7 @@ pub mod AllowedSteps
 mod ViewChanges
 mod SplitsAndJoins
 mod Closings
+pub mod StatesAtRest
 mod Openings
 pub mod LineFronts
 mod LineOperations

@@ -16,6 +16,7 @@ pub mod CallSteps
 pub mod Progress
 pub mod PassOfTable
 pub mod Closing
+pub mod Resting
 pub mod WaitingStore
 pub mod Operations
 pub mod SingleSteps

@@ -9,6 +9,7 @@
 ghost use denote.Param.Send.{IsSend, IsSync};
 ghost use Rattle.entry_lock.specs.contracts.table.LockTable as lock_table;
 ghost use Rattle.entry_lock.specs.contracts.table.Pass as pass;
+ghost use Rattle.entry_lock.specs.Resting.{StatesAtRestClose};
 ghost use Rattle.entry_lock.specs.SingleSteps.{OperationsAreSingleSteps};
 ghost use Rattle.entry_lock.specs.Laws.{TablesOpenOnTheirStates, EachOperationIsAStep, LooksThatFindGoneAreNoSteps, SplitsAreSteps, JoinsAreSteps, RaisedBitsStand};
 
@@ -47,6 +48,12 @@ pub fn joins_are_steps()
 /// later state before, up to and with that of the first receipt that clears it.
 pub fn raised_bits_stand()
     ensures { RaisedBitsStand }
+{}
+
+/// A pass with all shares closes a table to one list of states: that of the states which its
+/// entries rest in.
+pub fn states_at_rest_close()
+    ensures { StatesAtRestClose }
 {}
 
 /// Threads may share a table by reference, and one may hand it to another.

@@ -28,6 +28,8 @@ mod outcome;
 mod passes;
 mod pause;
 mod plays;
+mod rest_plays;
+mod resting;
 mod rule;
 mod table;
 mod waiting;
@@ -37,7 +39,7 @@ pub use closing::Closed;
 pub use laws::{
     each_operation_is_a_step, joins_are_steps, looks_that_find_gone_are_no_steps,
     operations_are_single_steps, passes_change_threads, raised_bits_stand, splits_are_steps,
-    tables_are_shared, tables_open_on_their_states,
+    states_at_rest_close, tables_are_shared, tables_open_on_their_states,
 };
 pub use opening::OpenRefused;
 pub use pause::{JustLocked, NoPause, Pause};

@@ -30,7 +30,8 @@ impl PaprResize {
         pending: false,
     };
 
-    /// Whether a table is pending that a call left so.
+    /// Whether a table is pending: its order is one of a table, and it has as many entries as are
+    /// ready. The calls leave no other pending table, and one from elsewhere counts as none.
     fn is_pending_table(&self) -> bool
         ensures { result ≡ is_pending_table self.now }
     {

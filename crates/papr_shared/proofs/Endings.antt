@@ -95,7 +95,7 @@ pub walk_tried :
     → IfOk tried
     (λ found. IsTrial is_no_match (calls_of_walk (arc_value x.sharer.table).order w) y.receipts)
     → IfOk tried (λ found. y.pending ≡ Nothing)
-    → IfErr tried (λ busy. KeepsWalk (arc_value x.sharer.table).order w y busy)
+    → IfErr tried (λ busy. KeepsWalk (arc_value x.sharer.table).order w x.sharer y busy)
     → (x.sharer.pass.shares ≡ (arc_value x.sharer.table).passes → IsOk tried)
     → IfOk tried (λ found. h.found ≡ end_told w y.receipts h.receipts)
     → IfErr tried (λ busy. h.found ≡ busy_told y.receipts h.receipts)
@@ -121,8 +121,9 @@ walk_tried w x y h (Err b) made put trial nothing kept alone end busy =
       walked = record {
         receipts = put;
         tried = inr (record {
-          kept = subst (λ order. KeepsWalk order w y y.busy) (sym (ap order_of made.table))
-              (subst (KeepsWalk (arc_value x.sharer.table).order w y) (sym kept.told) kept);
+          kept = subst (λ order. KeepsWalk order w x.sharer y y.busy) (sym (ap order_of made.table))
+              (subst (KeepsWalk (arc_value x.sharer.table).order w x.sharer y) (sym kept.told)
+              kept);
           not_alone =
               λ all.
               not_ok (Err b) b refl (alone (sym made.shares ∙ all ∙ ap passes_of made.table));

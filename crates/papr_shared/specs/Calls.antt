@@ -29,9 +29,10 @@ pub record HasEnded (plan : Plan) (y : Working) (h : Handed) : Type 0 where
 abbrev pub reply_so_far : Plan → List Receipt → HReply
 reply_so_far plan rs = record { rc = Busy; words = (plan.told rs).1; receipts = rs }
 
--- The call is held up at its next operation, and the pass keeps it. Another pass has a share.
-pub record IsHeldUp (plan : Plan) (y : Working) (h : Handed) : Type 0 where
-  pub kept : KeepsCall plan y y.busy
+-- The call is held up at its next operation, and the pass keeps it, with the words that the last
+-- step of this try found. Another pass has a share.
+pub record IsHeldUp (plan : Plan) (x y : Working) (h : Handed) : Type 0 where
+  pub kept : KeepsCall plan x.sharer y y.busy
   pub not_alone : y.sharer.pass.shares ≢ (arc_value y.sharer.table).passes
   pub over : HandsOver (reply_so_far plan y.receipts) h
 
@@ -40,20 +41,20 @@ abbrev pub NeverBusy : Plan → Type 0
 NeverBusy plan = (rs : List Receipt) → (plan.told rs).0 ≢ Busy
 
 -- One of the two.
-abbrev pub IsTried : Plan → Working → Handed → Type 0
-IsTried plan y h = HasEnded plan y h ⊎ IsHeldUp plan y h
+abbrev pub IsTried : Plan → Working → Working → Handed → Type 0
+IsTried plan x y h = HasEnded plan y h ⊎ IsHeldUp plan x y h
 
 -- A call that was begun: its receipts are all that were made.
 pub record IsBegunNow (plan : Plan) (x y : Working) (h : Handed) : Type 0 where
   pub made : IsMade x y y.receipts
-  pub tried : IsTried plan y h
+  pub tried : IsTried plan x y h
 
 -- A call that went on: the new receipts are behind those that there were, and are all that were
 -- made.
 pub record HasGoneOn (plan : Plan) (x y : Working) (h : Handed) : Type 0 where
   pub behind : y.receipts ≡ x.receipts ++ receipts_added x.receipts y.receipts
   pub made : IsMade x y (receipts_added x.receipts y.receipts)
-  pub tried : IsTried plan y h
+  pub tried : IsTried plan x y h
 
 -- ---- calls that begin
 -- Where the pass has nothing to go on with; otherwise the call is refused, and nothing changes.

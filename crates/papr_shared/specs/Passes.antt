@@ -142,11 +142,10 @@ close_refusal count x =
     then (if has_all_shares x then (if is_free x then None else Some Busy) else Some Resource)
     else Some Parameter
 
--- What a closing does by the reason against it. With none the table is closed, or it still has an
--- owner that is no pass and the answer is H_RESOURCE.
+-- What a closing does by the reason against it. With none the table is closed.
 abbrev pub ClosesBy : Option Rc → Working → ClosedAfter → Type 0
 ClosesBy (Some rc) x t = IsStillOpen (Some x) rc t
-ClosesBy None x t = IsClosedNow x t ⊎ IsStillOpen (Some x) Resource t
+ClosesBy None x t = IsClosedNow x t
 
 -- An open pass is closed, unless something is against it. For a closed one the answer is
 -- H_PARAMETER.

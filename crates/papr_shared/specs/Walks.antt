@@ -37,28 +37,29 @@ pub record HasFound (w : PageWalk) (y : Working) (h : HandedWalk) : Type 0 where
   pub found : h.found ≡ end_told w y.receipts h.receipts
   pub not_busy : h.found.outcome ≢ 6
 
--- The walk is held up at its next entry, and the pass keeps it. Another pass has a share.
-pub record IsHeldUpWalk (w : PageWalk) (y : Working) (h : HandedWalk) : Type 0 where
-  pub kept : KeepsWalk (arc_value y.sharer.table).order w y y.busy
+-- The walk is held up at its next entry, and the pass keeps it, with the words that the last step
+-- of this try found. Another pass has a share.
+pub record IsHeldUpWalk (w : PageWalk) (x y : Working) (h : HandedWalk) : Type 0 where
+  pub kept : KeepsWalk (arc_value y.sharer.table).order w x.sharer y y.busy
   pub not_alone : y.sharer.pass.shares ≢ (arc_value y.sharer.table).passes
   pub found : h.found ≡ busy_told y.receipts h.receipts
 
 -- One of the two. The receipts are in the slots, as far as they go.
-pub record IsWalked (w : PageWalk) (y : Working) (h : HandedWalk) : Type 0 where
+pub record IsWalked (w : PageWalk) (x y : Working) (h : HandedWalk) : Type 0 where
   pub receipts : h.receipts_after ≡ filled h.receipts (map shown_receipt y.receipts)
-  pub tried : HasFound w y h ⊎ IsHeldUpWalk w y h
+  pub tried : HasFound w y h ⊎ IsHeldUpWalk w x y h
 
 -- A walk that was begun: its receipts are all that were made.
 pub record IsWalkBegun (w : PageWalk) (x y : Working) (h : HandedWalk) : Type 0 where
   pub made : IsMade x y y.receipts
-  pub walked : IsWalked w y h
+  pub walked : IsWalked w x y h
 
 -- A walk that went on: the new receipts are behind those that there were, and are all that were
 -- made.
 pub record HasWalkedOn (w : PageWalk) (x y : Working) (h : HandedWalk) : Type 0 where
   pub behind : y.receipts ≡ x.receipts ++ receipts_added x.receipts y.receipts
   pub made : IsMade x y (receipts_added x.receipts y.receipts)
-  pub walked : IsWalked w y h
+  pub walked : IsWalked w x y h
 
 -- ---- walks that begin
 -- Where the arguments are in range and the pass has nothing to go on with; otherwise the walk is

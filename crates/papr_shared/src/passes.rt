@@ -1,15 +1,19 @@
-ghost use Rattle.std.specs.Prelude.{◌≡◌, nat_le, length, Some, None, IfOk, IfErr};
+ghost use Rattle.std.specs.Prelude.{◌≡◌, nat_le, true, length, Some, None, IfOk, IfErr};
+ghost use Rattle.std.specs.Arc.{arc_value};
+ghost use Rattle.hpte_fields.specs.TableSize.{entry_count};
+ghost use Rattle.entry_lock.specs.PassOfTable.{view_of};
+ghost use Rattle.entry_lock.specs.Closing.{Closes};
+ghost use Rattle.shared_pass.specs.Workings.{has_all_shares};
 ghost use Rattle.papr_codes.specs.ReturnCodes.{rc_code};
 ghost use Rattle.papr_codes.specs.declared.codes.Rc.TheVariants.{Success};
 ghost use Rattle.c_layout.specs.Entries.{states_of, AreMarked};
 ghost use Rattle.papr_shared.specs.Passes as spec;
 
 use c_layout::PaprEntry;
-use entry_model::EntryState;
 use hpt_resize::StateHolder;
 use hpte_fields::entry_count;
 use papr_codes::Rc;
-use shared_pass::{PaprPass, Room, Working, close};
+use shared_pass::{PaprPass, Room, Working};
 use std::alloc::Global;
 
 /// Puts a new pass with one of the shares into `other`.
@@ -86,20 +90,25 @@ struct StillOpen {
     rc: Rc,
 }
 
-/// Gives each entry the state at its index.
-fn put_states(entries: &mut [PaprEntry], states: &[EntryState])
-    requires { length states.now ≡ length (states_of entries.old) }
-    ensures states { states_of entries.new ≡ states.now }
+/// Gives each entry the state that it closes to, by a pass with all shares.
+fn put_states(entries: &mut [PaprEntry], working: &mut Working)
+    requires count { length (states_of entries.old)
+        ≡ entry_count (arc_value working.old.sharer.table).order }
+    requires all { has_all_shares working.old ≡ true }
+    ensures closes { Closes
+        (arc_value working.old.sharer.table).opening.items
+        (view_of working.old.sharer.pass)
+        (states_of entries.new) }
     ensures marks { AreMarked entries.old entries.new }
 {
-    for i in 0..entries.len() {
-        entries[i].hold(&states[i]);
+    for entry in 0..entry_count(working.order()) {
+        entries[entry as usize].hold(&working.state_at_rest(entry));
     }
 }
 
-/// Closes the table of a pass, and writes its entries back.
+/// Writes the entries back by a pass with all shares, and lets it go, and its table with it.
 #[tactic(auto, using(c_layout::proofs::Marks::marked_none))]
-fn write_back(working: Box<Working>, entries: &mut [PaprEntry]) -> Result<(), StillOpen>
+fn write_back(mut working: Box<Working>, entries: &mut [PaprEntry]) -> Result<(), StillOpen>
     ensures closed { let after =
         spec.closed_after (states_of entries.old) (states_of entries.new) in
         IfOk result
@@ -127,16 +136,8 @@ fn write_back(working: Box<Working>, entries: &mut [PaprEntry]) -> Result<(), St
         let rc = Rc::Busy;
         return Err(StillOpen { working, rc });
     }
-    match close(working) {
-        Ok(closed) => {
-            put_states(entries, closed.closing.as_slice());
-            Ok(())
-        }
-        Err(working) => {
-            let rc = Rc::Resource;
-            Err(StillOpen { working, rc })
-        }
-    }
+    put_states(entries, &mut working);
+    Ok(())
 }
 
 /// Writes the entries back, frees the table, and closes the pass, which must have all shares. An

@@ -3,12 +3,10 @@
 //! so far, and makes the rest later.
 #![tactic(auto)]
 
-mod passing;
 mod plans;
 mod tried;
 mod trying;
 
-pub use passing::Passing;
 pub use plans::try_plan;
 pub use tried::TriedStore;
 pub use trying::try_calls;

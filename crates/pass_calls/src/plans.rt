@@ -29,6 +29,7 @@ fn try_removals<S: TriedStore>(
         (λ busy. IsBegun (h_bulk_remove_plan order pairs.now) receipts.new) }
     ensures next { IfErr result
         (λ busy. IsHeldUp (h_bulk_remove_plan order pairs.now) receipts.new busy) }
+    ensures told { IfErr result (λ busy. S.told store.old store.new busy.entry busy) }
     ensures alone { S.alone store.old → IsOk result }
 {
     let _order = store.order();
@@ -57,6 +58,7 @@ pub fn try_plan<S: TriedStore>(
         (λ registers. IsReplyOf (plan_of plan.now) (reply_with registers receipts.new)) }
     ensures begun { IfErr result (λ busy. IsBegun (plan_of plan.now) receipts.new) }
     ensures next { IfErr result (λ busy. IsHeldUp (plan_of plan.now) receipts.new busy) }
+    ensures told { IfErr result (λ busy. S.told store.old store.new busy.entry busy) }
     ensures alone { S.alone store.old → IsOk result }
 {
     match plan {

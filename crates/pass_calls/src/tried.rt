@@ -2,6 +2,7 @@ ghost use Rattle.std.specs.Prelude.{◌≡◌, ◌≤◌, ◌<◌, ◌++◌, [],
 ghost use Rattle.hpte_fields.specs.TableSize.{IsTableOrder, entry_count};
 ghost use Rattle.entry_model.specs.declared.receipt.Receipt.{Receipt};
 ghost use Rattle.entry_model.specs.Receipt.{IsNormal, IsReceiptOf};
+ghost use Rattle.entry_lock.specs.declared.busy.Busy.{Busy};
 ghost use Rattle.pass_calls.specs.HeldUp.{IsBusyAt};
 
 use entry_lock::Busy;
@@ -11,6 +12,10 @@ use entry_model::{Op, Receipt};
 pub trait TriedStore {
     /// Between two moments of one store its caller made just these receipts, in this order.
     ghost made: { Self → Self → List Receipt → Type 0 };
+
+    /// Between two moments of one store its caller took a step, the last of which was on this entry
+    /// and found these two words.
+    ghost told: { Self → Self → ℕ → Busy → Type 0 };
 
     /// The table has 2 ^ table_order bytes, and an entry has 16.
     ghost table_order: { Self → ℕ };
@@ -34,6 +39,7 @@ pub trait TriedStore {
         ensures made { IfOk result (λ r. made self.old self.new (r ∷ [])) }
         ensures nothing { IfErr result (λ b. made self.old self.new []) }
         ensures busy { IfErr result (λ b. IsBusyAt entry op b) }
+        ensures told { IfErr result (λ b. told self.old self.new entry b) }
         ensures alone { alone self.old → IsOk result };
 
     /// Between a moment and itself nothing was made.
@@ -44,6 +50,12 @@ pub trait TriedStore {
         → made first between early
         → made between last late
         → made first last (early ++ late) };
+
+    /// What the last step found is told of a longer stretch of time with that end as well.
+    ghost told_since: { (first between last : Self) (receipts : List Receipt) (entry : ℕ) (b : Busy)
+        → made first between receipts
+        → told between last entry b
+        → told first last entry b };
 
     /// No call changes the order.
     ghost order_stays: { (before after : Self) (receipts : List Receipt)

@@ -32,6 +32,7 @@ pub fn try_calls<S: TriedStore, C: CallList>(
     ensures begun { IfErr result
         (λ busy. IsBegunTrial (C.goes_on calls.now) (C.calls calls.now) receipts.new) }
     ensures next { IfErr result (λ busy. IsHeldUpAt (C.calls calls.now) receipts.new busy) }
+    ensures told { IfErr result (λ busy. S.told store.old store.new busy.entry busy) }
     ensures alone { S.alone store.old → IsOk result }
 {
     let done = receipts.as_slice().len() as u32;

@@ -4,22 +4,29 @@ use Rattle.entry_model.specs.Trial.{Plan}
 use Rattle.entry_lock.specs.declared.busy.Busy.{Busy}
 use Rattle.shared_pass.specs.declared.held.HeldCall.{HeldCall}
 use Rattle.shared_pass.specs.declared.held.Pending.TheVariants.{Call, Walk}
+use Rattle.shared_pass.specs.declared.sharer.Sharer.{Sharer}
 use Rattle.shared_pass.specs.declared.walk.PageWalk.{PageWalk}
 use Rattle.shared_pass.specs.declared.working.Working.{Working}
 use Rattle.shared_pass.specs.Held.{plan_of_held, IsHeldPlan, IsHeldWalk}
+use Rattle.shared_pass.specs.Made.{ToldBy}
 
--- What it has to go on with is this very call. Its receipts are of the call's first operations, and
--- the next one is busy, which it tells.
-pub record KeepsCall (plan : Plan) (w : Working) (b : Busy) : Type 0 where
+-- The pass x is y after a try. What it has to go on with is this very call. Its receipts are of the
+-- call's first operations, and the next one is busy, which it tells: by the words that the last
+-- step of this try found.
+pub record KeepsCall (plan : Plan) (x : Sharer) (y : Working) (b : Busy) : Type 0 where
   pub call : HeldCall
-  pub pending : w.pending ≡ Call call
+  pub pending : y.pending ≡ Call call
   pub plan_is : plan_of_held call ≡ plan
-  pub held_up : IsHeldPlan plan w.receipts b
-  pub told : w.busy ≡ b
+  pub held_up : IsHeldPlan plan y.receipts b
+  pub last : ToldBy x y.sharer b.entry b
+  pub told : y.busy ≡ b
 
--- What it has to go on with is this very walk, on a table of 2 ^ order bytes. Its receipts are of
--- the walk's first operations, and the next one is busy, which it tells.
-pub record KeepsWalk (order : ℕ) (walk : PageWalk) (w : Working) (b : Busy) : Type 0 where
-  pub pending : w.pending ≡ Walk walk
-  pub held_up : IsHeldWalk order walk w.receipts b
-  pub told : w.busy ≡ b
+-- The pass x is y after a try. What it has to go on with is this very walk, on a table of 2 ^ order
+-- bytes. Its receipts are of the walk's first operations, and the next one is busy, which it tells:
+-- by the words that the last step of this try found.
+pub record KeepsWalk (order : ℕ) (walk : PageWalk) (x : Sharer) (y : Working) (b : Busy) : Type 0
+  where
+    pub pending : y.pending ≡ Walk walk
+    pub held_up : IsHeldWalk order walk y.receipts b
+    pub last : ToldBy x y.sharer b.entry b
+    pub told : y.busy ≡ b

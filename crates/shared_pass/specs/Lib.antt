@@ -1,4 +1,5 @@
 pub mod Shares
+pub mod Reading
 pub mod Made
 pub mod Walks
 pub mod Held

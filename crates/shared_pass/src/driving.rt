@@ -39,7 +39,8 @@ impl Working {
             (plan_of plan.now)
             (reply_with registers self.new.receipts)) }
         ensures ended { IfOk result (λ registers. self.new.pending ≡ Nothing) }
-        ensures kept { IfErr result (λ busy. KeepsCall (plan_of plan.now) self.new busy) }
+        ensures kept { IfErr result
+            (λ busy. KeepsCall (plan_of plan.now) self.old.sharer self.new busy) }
         ensures alone { self.old.sharer.pass.shares ≡ (arc_value self.old.sharer.table).passes
             → IsOk result }
     {
@@ -72,7 +73,8 @@ impl Working {
             (plan_of plan.now)
             (reply_with registers self.new.receipts)) }
         ensures ended { IfOk result (λ registers. self.new.pending ≡ Nothing) }
-        ensures kept { IfErr result (λ busy. KeepsCall (plan_of plan.now) self.new busy) }
+        ensures kept { IfErr result
+            (λ busy. KeepsCall (plan_of plan.now) self.old.sharer self.new busy) }
         ensures alone { self.old.sharer.pass.shares ≡ (arc_value self.old.sharer.table).passes
             → IsOk result }
     {
@@ -98,7 +100,8 @@ impl Working {
             (plan_of_held call)
             (reply_with registers self.new.receipts)) }
         ensures ended { IfOk result (λ registers. self.new.pending ≡ Nothing) }
-        ensures kept { IfErr result (λ busy. KeepsCall (plan_of_held call) self.new busy) }
+        ensures kept { IfErr result
+            (λ busy. KeepsCall (plan_of_held call) self.old.sharer self.new busy) }
         ensures alone { self.old.sharer.pass.shares ≡ (arc_value self.old.sharer.table).passes
             → IsOk result }
     {
@@ -126,7 +129,7 @@ impl Working {
         ensures found { IfOk result (λ found. found ≡ found_of self.new.receipts) }
         ensures ended { IfOk result (λ found. self.new.pending ≡ Nothing) }
         ensures kept { let order = (arc_value self.old.sharer.table).order in
-            IfErr result (λ busy. KeepsWalk order walk.now self.new busy) }
+            IfErr result (λ busy. KeepsWalk order walk.now self.old.sharer self.new busy) }
         ensures alone { self.old.sharer.pass.shares ≡ (arc_value self.old.sharer.table).passes
             → IsOk result }
     {
@@ -158,7 +161,7 @@ impl Working {
         ensures found { IfOk result (λ found. found ≡ found_of self.new.receipts) }
         ensures ended { IfOk result (λ found. self.new.pending ≡ Nothing) }
         ensures kept { let order = (arc_value self.old.sharer.table).order in
-            IfErr result (λ busy. KeepsWalk order walk.now self.new busy) }
+            IfErr result (λ busy. KeepsWalk order walk.now self.old.sharer self.new busy) }
         ensures alone { self.old.sharer.pass.shares ≡ (arc_value self.old.sharer.table).passes
             → IsOk result }
     {
@@ -184,7 +187,7 @@ impl Working {
         ensures found { IfOk result (λ found. found ≡ found_of self.new.receipts) }
         ensures ended { IfOk result (λ found. self.new.pending ≡ Nothing) }
         ensures kept { let order = (arc_value self.old.sharer.table).order in
-            IfErr result (λ busy. KeepsWalk order walk.now self.new busy) }
+            IfErr result (λ busy. KeepsWalk order walk.now self.old.sharer self.new busy) }
         ensures alone { self.old.sharer.pass.shares ≡ (arc_value self.old.sharer.table).passes
             → IsOk result }
     {

@@ -19,7 +19,7 @@ mod working;
 pub use crossing::passes_cross;
 pub use held::{HeldCall, Pending};
 pub use pass::PaprPass;
-pub use room::{Room, close};
+pub use room::Room;
 pub use sharer::Sharer;
 pub use walk::PageWalk;
 pub use working::Working;

@@ -47,13 +47,4 @@ impl<T, A: Allocator> Parts<T, A> {
         }
         Parts { ptr, alloc }
     }
-
-    /// Takes the value out. The block has none then.
-    pub fn empty(self) -> (T, Vacant<T, A>)
-        ensures { result.0 ≡ self.value }
-    {
-        let Parts { ptr, alloc } = self;
-        let value = unsafe { ptr.read() };
-        (value, Vacant { ptr, alloc })
-    }
 }

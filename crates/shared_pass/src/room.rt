@@ -1,11 +1,7 @@
-ghost use Rattle.std.specs.Prelude.{◌≡◌, IfOk, IfErr};
-ghost use Rattle.std.specs.Arc.{arc_value};
-ghost use Rattle.entry_lock.specs.PassOfTable.{view_of};
-ghost use Rattle.entry_lock.specs.Closing.{Closes};
+ghost use Rattle.std.specs.Prelude.{◌≡◌};
 
 use crate::parts::Parts;
 use crate::working::Working;
-use entry_lock::Closed;
 use std::alloc::Global;
 use std_alloc::room::Vacant;
 
@@ -35,29 +31,5 @@ impl Room {
     pub fn free(self) {
         let Room { block } = self;
         let _alloc = block.free();
-    }
-}
-
-/// The states at the end, by a pass with all shares. Its memory is given back.
-///
-/// # Errors
-/// The pass as it is, where the table has other owners still.
-pub fn close(working: Box<Working>) -> Result<Closed, Box<Working>>
-    requires { working.value.sharer.pass.shares
-        ≡ (arc_value working.value.sharer.table).passes }
-    ensures closes { IfOk result (λ closed. Closes
-        (arc_value working.value.sharer.table).opening.items
-        (view_of working.value.sharer.pass)
-        closed.closing.items) }
-    ensures same { IfErr result (λ b. b.value ≡ working.value) }
-{
-    let (working, block) = Parts::of(working).empty();
-    let room = Room { block };
-    match working.close() {
-        Ok(closed) => {
-            room.free();
-            Ok(closed)
-        }
-        Err(working) => Err(room.fill(working)),
     }
 }

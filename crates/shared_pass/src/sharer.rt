@@ -2,7 +2,7 @@ ghost use Rattle.std.specs.Arc.{arc_value};
 ghost use Rattle.entry_lock.specs.PassOfTable.{IsOf};
 ghost use Rattle.entry_lock.specs.PassInvariants.{most_passes};
 
-use entry_lock::{Closed, LockTable, Pass};
+use entry_lock::{LockTable, Pass};
 use entry_model::EntryState;
 use std::alloc::Global;
 use std::sync::Arc;
@@ -16,11 +16,10 @@ pub struct Sharer {
 }
 
 impl Sharer {
-    ghost use Rattle.std.specs.Prelude.{◌≡◌, ◌≤◌, ◌<◌, IfOk, IfErr, IfSome, IfNone, vec_len};
+    ghost use Rattle.std.specs.Prelude.{◌≡◌, ◌≤◌, ◌<◌, IfSome, IfNone, vec_len};
     ghost use Rattle.hpte_fields.specs.TableSize.{IsTableOrder, entry_count};
-    ghost use Rattle.entry_lock.specs.PassOfTable.{view_of};
-    ghost use Rattle.entry_lock.specs.Closing.{Closes};
     ghost use Rattle.shared_pass.specs.Shares.{IsOpened, IsSplit, IsJoined, has_all};
+    ghost use Rattle.shared_pass.specs.Reading.{OnlyReads, RestsIn};
 
     /// Opens a table of these states, with all shares. `None` for want of memory.
     pub fn open(alloc: Global, states: Vec<EntryState>, order: u8, passes: u32) -> Option<Sharer>
@@ -84,22 +83,13 @@ impl Sharer {
         self.pass.join(&self.table, pass);
     }
 
-    /// The states at the end, by a pass with all shares.
-    ///
-    /// # Errors
-    /// The pass as it is, where the table has other owners still.
-    pub fn close(self) -> Result<Closed, Sharer>
-        requires { self.pass.shares ≡ (arc_value self.table).passes }
-        ensures closes { IfOk result (λ closed. Closes
-            (arc_value self.table).opening.items
-            (view_of self.pass)
-            closed.closing.items) }
-        ensures same { IfErr result (λ sharer. sharer ≡ self) }
+    /// The state that an entry of the table closes to, by a pass with all shares.
+    pub fn state_at_rest(&mut self, entry: u32) -> EntryState
+        requires all { self.old.pass.shares ≡ (arc_value self.old.table).passes }
+        requires in_table { entry < entry_count (arc_value self.old.table).order }
+        ensures same { OnlyReads self.old self.new }
+        ensures rests { RestsIn self.old entry result }
     {
-        let Sharer { table, pass } = self;
-        match Arc::try_unwrap(table) {
-            Ok(table) => Ok(table.close(pass)),
-            Err(table) => Err(Sharer { table, pass }),
-        }
+        self.table.state_at_rest(&mut self.pass, entry)
     }
 }

@@ -7,15 +7,17 @@ use pass_calls::TriedStore;
 impl TriedStore for Sharer {
     ghost use Rattle.std.specs.Prelude.{◌≡◌, ◌++◌, [], flat_map};
     ghost use Rattle.std.specs.Arc.{arc_value};
-    ghost use Rattle.std.proofs.Common.{refl, ap, sym, ◌∙◌, append_assoc, append-nil};
+    ghost use Rattle.std.proofs.Common.{refl, ap, sym, ◌∙◌, append_assoc, append-nil, le_refl, le_trans, lt_of_le_of_lt};
     ghost use Rattle.std.proofs.lemmas.Grind.{flat_map-append};
     ghost use Rattle.entry_model.proofs.FrontLaws.{below_self, keeps_more, keeps_below, one_keeps};
     ghost use Rattle.lock_core.specs.Machine.{shown_sightings};
     ghost use Rattle.entry_lock.specs.PassOfTable.{view_of};
     ghost use Rattle.entry_lock.specs.WaitingStore.{MadeReceipts};
-    ghost use Rattle.shared_pass.specs.Made.{MadeBy, order_of, passes_of};
+    ghost use Rattle.shared_pass.specs.Made.{MadeBy, ToldBy, order_of, passes_of};
 
     ghost made = { MadeBy };
+
+    ghost told = { ToldBy };
 
     ghost table_order = { λ s. (arc_value s.table).order };
 
@@ -38,7 +40,7 @@ impl TriedStore for Sharer {
           lines = sym (append-nil v.actor.lines);
           fronts = below_self v.fronts;
           numbers = refl;
-        } in record { table = refl; shares = refl; made = made } };
+        } in record { table = refl; shares = refl; made = made; count = le_refl v.count } };
 
     ghost made_more = { λ first between last early late before after.
         let u = view_of first.pass in
@@ -61,7 +63,16 @@ impl TriedStore for Sharer {
           table = after.table ∙ before.table;
           shares = after.shares ∙ before.shares;
           made = made;
+          count = le_trans before.count after.count;
         } };
+
+    ghost told_since = { λ first between last receipts entry b made told. record {
+      entry = told.entry;
+      count = lt_of_le_of_lt made.count told.count;
+      last = told.last;
+      looked = told.looked;
+      found = told.found;
+    } };
 
     ghost order_stays = { λ before after receipts made.
         ap order_of made.table };

@@ -5,7 +5,7 @@ ghost use Rattle.entry_lock.specs.PassInvariants.{most_passes};
 
 use crate::held::Pending;
 use crate::sharer::Sharer;
-use entry_lock::{Busy, Closed};
+use entry_lock::Busy;
 use entry_model::{EntryState, Receipts};
 use std::alloc::Global;
 
@@ -24,13 +24,12 @@ pub struct Working {
 }
 
 impl Working {
-    ghost use Rattle.std.specs.Prelude.{◌≡◌, ◌≤◌, ◌<◌, [], IfOk, IfErr, IfSome, IfNone, vec_len};
+    ghost use Rattle.std.specs.Prelude.{◌≡◌, ◌≤◌, ◌<◌, true, [], IfSome, IfNone, vec_len};
     ghost use Rattle.std.specs.Arc.{arc_value};
     ghost use Rattle.hpte_fields.specs.TableSize.{IsTableOrder, entry_count};
-    ghost use Rattle.entry_lock.specs.PassOfTable.{view_of};
-    ghost use Rattle.entry_lock.specs.Closing.{Closes};
     ghost use Rattle.shared_pass.specs.declared.held.Pending.TheVariants.{Nothing};
     ghost use Rattle.shared_pass.specs.Shares.{AreOfOne};
+    ghost use Rattle.shared_pass.specs.Reading.{OnlyReads, RestsIn};
     ghost use Rattle.shared_pass.specs.Workings as workings;
 
     /// A pass that has nothing to go on with.
@@ -129,32 +128,15 @@ impl Working {
         self.pending = Pending::Nothing;
     }
 
-    /// The states at the end, by a pass with all shares.
-    ///
-    /// # Errors
-    /// The pass as it is, where the table has other owners still.
-    pub fn close(self) -> Result<Closed, Working>
-        requires { self.sharer.pass.shares ≡ (arc_value self.sharer.table).passes }
-        ensures closes { IfOk result (λ closed. Closes
-            (arc_value self.sharer.table).opening.items
-            (view_of self.sharer.pass)
-            closed.closing.items) }
-        ensures same { IfErr result (λ working. working ≡ self) }
+    /// The state that an entry of the table closes to, by a pass with all shares.
+    pub fn state_at_rest(&mut self, entry: u32) -> EntryState
+        requires all { workings.has_all_shares self.old ≡ true }
+        requires in_table { entry < entry_count (arc_value self.old.sharer.table).order }
+        ensures same { OnlyReads self.old.sharer self.new.sharer }
+        ensures pending { self.new.pending ≡ self.old.pending }
+        ensures receipts { self.new.receipts ≡ self.old.receipts }
+        ensures rests { RestsIn self.old.sharer entry result }
     {
-        let Working {
-            sharer,
-            pending,
-            receipts,
-            busy,
-        } = self;
-        match sharer.close() {
-            Ok(closed) => Ok(closed),
-            Err(sharer) => Err(Working {
-                sharer,
-                pending,
-                receipts,
-                busy,
-            }),
-        }
+        self.sharer.state_at_rest(entry)
     }
 }

@@ -1,99 +1,19 @@
 /*
- * What is answered while another thread is at an entry. A signal stops the other thread inside a call, at a moment
- * when a try on its entry is busy; there it stays until it is let go, and so the entry is busy for certain.
+ * What is answered while another thread is at an entry.
  */
-#include "expect.h"
-
-#include <pthread.h>
-#include <signal.h>
-#include <stdatomic.h>
-#include <stdlib.h>
-#include <time.h>
-
-enum { ENTRY = 0x22, GROUP = 0x20, PASSES = 4, SECONDS = 60 };
+#include "stopping.h"
 
 #define LOCK (UINT64_C(1) << 63)    /* bits of a control word: a call holds the entry */
 #define SHUT (UINT64_C(1) << 62)    /* .. and changes it */
 
-static struct papr_grants grants;
-static struct papr_entry table[COUNT];
-static struct papr_pass pass, third, their_pass;
-static pthread_t other;
-static atomic_bool is_over, is_stopped, may_go_on;
+static struct papr_pass third;
 
 /* A walk of the page that is in ENTRY. */
 static const struct papr_access access = {.ea = 7 << 12, .vsid = 3, .shift = 12};
 
-/* ---- the other thread */
-
-static void nap(void)
-{
-    nanosleep(&(struct timespec){.tv_nsec = 50000}, NULL);
-}
-
-static void stop_here(int number)
-{
-    (void)number;
-    atomic_store(&is_stopped, true);
-    while (!atomic_load(&may_go_on))
-        nap();
-    atomic_store(&is_stopped, false);
-}
-
-/* Protects ENTRY over and over. Its own calls may be busy with those of the main thread. */
-static void *protect(void *unused)
-{
-    uint64_t none;
-    while (!atomic_load(&is_over)) {
-        struct papr_reply reply = papr_try_h_protect(&their_pass, 2, ENTRY, 0, &none, 1, NULL, 0);
-        while (reply.rc == PAPR_H_BUSY)
-            reply = papr_again(&their_pass, &none, 1, NULL, 0);
-    }
-    return unused;
-}
-
-static void let_go(void)
-{
-    atomic_store(&may_go_on, true);
-    while (atomic_load(&is_stopped))
-        nap();
-}
-
-static void stop(void)
-{
-    atomic_store(&may_go_on, false);
-    if (pthread_kill(other, SIGUSR1))
-        abort();
-    while (!atomic_load(&is_stopped))
-        nap();
-}
-
-static bool is_call_busy(void)
-{
-    return papr_try_h_read(&pass, 0, ENTRY, NULL, 0, NULL, 0).rc == PAPR_H_BUSY;
-}
-
 static bool is_walk_busy(void)
 {
     return papr_try_walk(&pass, &access, NULL, 0).outcome == PAPR_WALK_BUSY;
-}
-
-/* Stops the other thread where this is so. */
-static void stop_where(bool (*is_busy)(void))
-{
-    time_t end = time(NULL) + SECONDS;
-    for (;;) {
-        stop();
-        if (is_busy()) {
-            papr_give_up(&pass);
-            return;
-        }
-        let_go();
-        if (time(NULL) > end) {
-            printf("no entry was busy in %d seconds\n", SECONDS);
-            exit(1);
-        }
-    }
 }
 
 /* ---- what is expected of a call that is busy */
@@ -331,14 +251,9 @@ static void split(void)
 
 int main(void)
 {
-    grant(&grants);
-    papr_h_enter(table, COUNT, ORDER, &grants, PAPR_EXACT, 0x20, 0x1001, 0x3012, ROOM);
-    papr_h_enter(table, COUNT, ORDER, &grants, PAPR_EXACT, ENTRY, 0x3001, 0x6012, ROOM);
-    IS(papr_open(table, COUNT, ORDER, PASSES, &pass), PAPR_H_SUCCESS);
-    IS(papr_split(&pass, &their_pass), PAPR_H_SUCCESS);
-    IS(papr_split(&pass, &third), PAPR_H_SUCCESS);
-    if (signal(SIGUSR1, stop_here) == SIG_ERR || pthread_create(&other, NULL, protect, NULL))
+    if (!begin())
         return 1;
+    IS(papr_split(&pass, &third), PAPR_H_SUCCESS);
     nothing_else();
     four_entries();
     walk();

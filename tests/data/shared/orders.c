@@ -70,7 +70,7 @@ int main(void)
     struct papr_pass pass = {0};
     struct papr_entry one = {0};
     grant(&grants);
-    for (uint8_t order = 22; order <= 24; order++)
+    for (uint8_t order = 22; order <= 27; order++)
         compare(order);
     IS(papr_open(&one, (size_t)1 << 13, 17, 1, &pass), PAPR_H_PARAMETER);
     IS(papr_open(&one, (size_t)1 << 31, 35, 1, &pass), PAPR_H_PARAMETER);

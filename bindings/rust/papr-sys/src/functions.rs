@@ -1,8 +1,8 @@
 //! The functions of `papr.h`, with its names and parameters.
 //!
-//! The caller ensures what the header asks for: each pointer is to initialised memory of the given
-//! length, no memory that a call may change overlaps that of another parameter, and entries and lists
-//! are all zero or as calls left them.
+//! The caller ensures what the header asks for: each pointer is aligned and to initialised memory of
+//! the given length, no memory that a call may change overlaps that of another parameter, and entries
+//! and lists are all zero or as calls left them.
 
 use crate::structs::*;
 

@@ -1,7 +1,7 @@
 //! `papr_shared.h`: calls and walks of several threads at once on one table.
 //!
 //! The caller also ensures that a pass is all zero or as the calls left it, is never copied, and is in one
-//! call at a time, and that `papr_join` takes passes of one table.
+//! call at a time, that no thread ends inside a call, and that `papr_join` takes passes of one table.
 
 use crate::structs::{papr_access, papr_entry, papr_grants, papr_receipt, papr_reply, papr_walk};
 use core::ffi::c_void;

@@ -63,7 +63,7 @@ impl fmt::Display for Answer {
 pub struct Receipt {
     /// The index of the entry.
     pub entry: u32,
-    /// How often it had changed, without R and C that accesses set.
+    /// How often calls had entered, removed or protected it, or cleared its R or C.
     pub stamp: u32,
     /// R.
     pub referenced: bool,

@@ -8,7 +8,7 @@ use papr_sys::{papr_entry, papr_page};
 pub type Entry = papr_entry;
 
 /// Which entries were changed since their marks were last taken.
-#[derive(Clone, Debug, PartialEq, Eq)]
+#[derive(Debug, PartialEq, Eq)]
 pub struct Taken {
     /// Their indexes, in ascending order.
     pub indexes: Vec<u32>,

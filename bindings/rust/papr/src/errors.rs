@@ -19,7 +19,7 @@ pub enum Error {
     PtegFull,
     /// H_NOT_FOUND: the entry is empty or fails the test.
     NotFound,
-    /// H_NO_MEM: the memory that is lent isn't that of a table of the order.
+    /// H_NO_MEM: there is no memory for a table of the order.
     NoMem,
     /// H_RESOURCE: the order is above the highest that is allowed.
     Resource,
@@ -62,39 +62,101 @@ impl fmt::Display for Error {
 
 impl core::error::Error for Error {}
 
-/// A table's order isn't from 18 to 34.
-#[derive(Clone, Copy, Debug, PartialEq, Eq)]
-pub struct BadOrder(pub u8);
+/// There is not enough memory. Nothing has changed.
+#[derive(Clone, Copy, Debug, PartialEq, Eq, Hash)]
+pub struct NoMemory;
 
-impl fmt::Display for BadOrder {
+impl fmt::Display for NoMemory {
     fn fmt(&self, f: &mut fmt::Formatter<'_>) -> fmt::Result {
-        write!(
-            f,
-            "the order of a table is from 18 to 34, and not {}",
-            self.0
-        )
+        f.write_str("there is not enough memory")
     }
 }
 
-impl core::error::Error for BadOrder {}
+impl core::error::Error for NoMemory {}
 
-/// A window has 1 to 16,384 pages, begins at a multiple of 4,096, and doesn't end above 2^60.
-#[derive(Clone, Copy, Debug, PartialEq, Eq)]
-pub struct BadWindow {
-    /// The bus address of its first page.
-    pub base: u64,
-    /// How many pages were asked for.
-    pub pages: usize,
+/// Why there is no new table.
+#[derive(Clone, Copy, Debug, PartialEq, Eq, Hash)]
+pub enum TableError {
+    /// Its order isn't from 18 to 34.
+    Order(u8),
+    /// There is no memory for its entries.
+    NoMemory,
 }
 
-impl fmt::Display for BadWindow {
-    fn fmt(&self, f: &mut fmt::Formatter<'_>) -> fmt::Result {
-        write!(
-            f,
-            "there is no window of {} pages at {:#x}",
-            self.pages, self.base
-        )
+impl From<NoMemory> for TableError {
+    fn from(_: NoMemory) -> TableError {
+        TableError::NoMemory
     }
 }
 
-impl core::error::Error for BadWindow {}
+impl fmt::Display for TableError {
+    fn fmt(&self, f: &mut fmt::Formatter<'_>) -> fmt::Result {
+        match self {
+            TableError::Order(order) => {
+                write!(f, "the order of a table is from 18 to 34, and not {order}")
+            }
+            TableError::NoMemory => f.write_str("there is no memory for the table"),
+        }
+    }
+}
+
+impl core::error::Error for TableError {}
+
+/// Why there is no new window.
+#[derive(Clone, Copy, Debug, PartialEq, Eq, Hash)]
+pub enum WindowError {
+    /// A window has 1 to 16,384 pages, begins at a multiple of 4,096, and doesn't end above 2^60.
+    Range {
+        /// The bus address of its first page.
+        base: u64,
+        /// How many pages were asked for.
+        pages: usize,
+    },
+    /// There is no memory for its entries.
+    NoMemory,
+}
+
+impl From<NoMemory> for WindowError {
+    fn from(_: NoMemory) -> WindowError {
+        WindowError::NoMemory
+    }
+}
+
+impl fmt::Display for WindowError {
+    fn fmt(&self, f: &mut fmt::Formatter<'_>) -> fmt::Result {
+        match self {
+            WindowError::Range { base, pages } => {
+                write!(f, "there is no window of {pages} pages at {base:#x}")
+            }
+            WindowError::NoMemory => f.write_str("there is no memory for the window"),
+        }
+    }
+}
+
+impl core::error::Error for WindowError {}
+
+/// Why no changed entries are named. No mark is taken then.
+#[derive(Clone, Copy, Debug, PartialEq, Eq, Hash)]
+pub enum TakeError {
+    /// The index to begin at is above the number of entries.
+    First(u32),
+    /// There is no memory for so many indexes.
+    NoMemory,
+}
+
+impl From<NoMemory> for TakeError {
+    fn from(_: NoMemory) -> TakeError {
+        TakeError::NoMemory
+    }
+}
+
+impl fmt::Display for TakeError {
+    fn fmt(&self, f: &mut fmt::Formatter<'_>) -> fmt::Result {
+        match self {
+            TakeError::First(first) => write!(f, "the table has no entry {first:#x} to begin at"),
+            TakeError::NoMemory => f.write_str("there is no memory for the indexes"),
+        }
+    }
+}
+
+impl core::error::Error for TakeError {}

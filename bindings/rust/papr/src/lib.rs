@@ -5,6 +5,9 @@
 //! The proof is that of the library below (`docs/LIBRARY.md` of the sources says what it states);
 //! this crate itself is tested, not proved. It is `no_std`, and needs `alloc`.
 //!
+//! Where there is no memory for what a call needs, it answers so; none ends the process for it. That
+//! holds also for H_RESIZE_HPT_PREPARE, whose guest says how large a table is to be.
+//!
 //! The feature `shared` has a `SharedTable`, on which several threads make calls at once, and `std` with
 //! it waits for a thread that is at an entry; the feature `bytes` has the whole program. Both need the
 //! heap of the C library.
@@ -34,6 +37,7 @@ mod entry;
 mod errors;
 pub mod flags;
 mod grants;
+mod memory;
 #[cfg(feature = "bytes")]
 pub mod program;
 mod reply;
@@ -48,7 +52,7 @@ mod window;
 
 pub use answers::{Answer, Receipt, Receipts};
 pub use entry::{decode, protection_rights, Entry, NoPage, Page, Taken};
-pub use errors::{BadOrder, BadWindow, Error};
+pub use errors::{Error, NoMemory, TableError, TakeError, WindowError};
 pub use grants::{Grant, GrantRefusal, Grants, GrantsRefused, Range};
 pub use reply::Reply;
 pub use resize::{Collision, CommitRefused, Prepared};

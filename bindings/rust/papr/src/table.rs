@@ -2,28 +2,27 @@
 
 use crate::answers::{ReceiptRoom, RECEIPTS};
 use crate::entry::{decode, Entry, NoPage, Page, Taken};
-use crate::errors::{BadOrder, Error};
+use crate::errors::{Error, NoMemory, TableError, TakeError};
 use crate::grants::Grants;
+use crate::memory::{copied, zeroed};
 use crate::reply::{Reply, WORDS};
 use crate::resize::{Collision, CommitRefused, Prepared};
-use crate::transfer::{result_of, Layout, TransferRefused};
+use crate::transfer::{result_of, Layout, TransferRefusal, TransferRefused};
 use crate::walk::{Access, Walk};
-use alloc::alloc::{alloc_zeroed, handle_alloc_error, Layout as MemoryLayout};
-use alloc::vec;
 use alloc::vec::Vec;
 use core::mem;
 use core::ops::{Range, RangeInclusive};
 use papr_sys::{papr_grants, papr_receipt, papr_reply, papr_resize};
 
 /// The orders that a table may have.
-const ORDERS: RangeInclusive<u64> = 18..=34;
+const ORDERS: RangeInclusive<u8> = 18..=34;
 /// The size of an entry in a guest's table and in an export, in bytes.
 const AN_ENTRY: usize = 16;
 const R: u64 = 0x100;
 const C: u64 = 0x80;
 
 /// A table of 2^order bytes with its entries, and the memory that is granted to its guest.
-#[derive(Clone, Debug)]
+#[derive(Debug)]
 pub struct Table {
     order: u8,
     entries: Vec<Entry>,
@@ -42,35 +41,34 @@ struct Lent {
     receipts: *mut papr_receipt,
 }
 
-/// The empty entries of a table of this order. Memory of the system is taken as it is touched, so
-/// that a large table of which little is used is a small one.
-fn empty_entries(order: u64) -> Option<Vec<Entry>> {
-    if !ORDERS.contains(&order) {
-        return None;
-    }
-    let count = (1 << order) / AN_ENTRY;
-    let memory = MemoryLayout::array::<Entry>(count).ok()?;
-    // SAFETY: the memory has room for so many entries, and all zero is an empty entry.
-    unsafe {
-        let entries = alloc_zeroed(memory).cast::<Entry>();
-        if entries.is_null() {
-            handle_alloc_error(memory);
-        }
-        Some(Vec::from_raw_parts(entries, count, count))
-    }
+/// The empty entries of a table of this order, which a table may have.
+fn empty_entries(order: u8) -> Result<Vec<Entry>, NoMemory> {
+    zeroed(1 << (u32::from(order) - AN_ENTRY.ilog2()))
 }
 
 impl Table {
     /// An empty table.
-    pub fn new(order: u8, grants: Grants) -> Result<Table, BadOrder> {
-        let entries = empty_entries(u64::from(order)).ok_or(BadOrder(order))?;
-        let pending = papr_resize::default();
+    pub fn new(order: u8, grants: Grants) -> Result<Table, TableError> {
+        if !ORDERS.contains(&order) {
+            return Err(TableError::Order(order));
+        }
         Ok(Table {
             order,
-            entries,
+            entries: empty_entries(order)?,
             grants,
-            pending,
+            pending: papr_resize::default(),
             pending_entries: Vec::new(),
+        })
+    }
+
+    /// Another table with the same entries, also of a pending table.
+    pub fn try_clone(&self) -> Result<Table, NoMemory> {
+        Ok(Table {
+            order: self.order,
+            entries: copied(&self.entries)?,
+            grants: self.grants.clone(),
+            pending: self.pending,
+            pending_entries: copied(&self.pending_entries)?,
         })
     }
 
@@ -328,33 +326,37 @@ impl Table {
         }
     }
 
-    /// Whether a table of this order is pending.
-    fn is_pending(&self, shift: u64) -> bool {
-        self.pending.pending && u64::from(self.pending.order) == shift
+    /// H_RESIZE_HPT_PREPARE with the entries of the pending table, of which there are none if none is
+    /// pending: its code.
+    fn prepare(&mut self, flags: u64, shift: u64, limit: u8) -> i64 {
+        let into = &mut self.pending_entries;
+        let (places, count) = (into.as_mut_ptr(), into.len());
+        // SAFETY: the lent entries are ours, as many, and the call keeps no pointer to them.
+        let code = unsafe {
+            papr_sys::papr_resize_prepare(&mut self.pending, limit, flags, shift, places, count)
+        };
+        if !self.pending.pending {
+            self.pending_entries = Vec::new();
+        }
+        code
     }
 
     /// H_RESIZE_HPT_PREPARE: makes 16,384 more entries of a pending table of 2^shift bytes ready;
     /// `limit` is the highest shift that is allowed. Shift 0 drops what is pending.
+    ///
+    /// Memory is taken when a table begins to be pending, and never for a call that is refused. At
+    /// [`Error::NoMem`] there is none for 2^shift bytes, and nothing is pending any more.
     pub fn h_resize_hpt_prepare(
         &mut self,
         flags: u64,
         shift: u64,
         limit: u8,
     ) -> Result<Prepared, Error> {
-        let mut into = if self.is_pending(shift) {
-            mem::take(&mut self.pending_entries)
-        } else {
-            empty_entries(shift).unwrap_or_default()
-        };
-        let (places, count) = (into.as_mut_ptr(), into.len());
-        // SAFETY: the lent entries are ours, as many, and the call keeps no pointer to them.
-        let code = unsafe {
-            papr_sys::papr_resize_prepare(&mut self.pending, limit, flags, shift, places, count)
-        };
-        if self.is_pending(shift) {
-            self.pending_entries = into;
-        } else if !self.pending.pending {
-            self.pending_entries = Vec::new();
+        let mut code = self.prepare(flags, shift, limit);
+        if code == papr_sys::PAPR_H_NO_MEM {
+            // Nothing else is wrong: the shift is that of a table, and no such table is pending.
+            self.pending_entries = empty_entries(shift as u8).unwrap_or_default();
+            code = self.prepare(flags, shift, limit);
         }
         match code {
             papr_sys::PAPR_H_LONG_BUSY => Ok(Prepared::LongBusy),
@@ -394,10 +396,9 @@ impl Table {
     }
 
     /// The entries from `first` on that were changed since their marks were last taken, `room` of
-    /// them at most. Takes the marks of those that it tells. `None` if `first` is above the number
-    /// of entries.
-    pub fn take_changed(&mut self, first: u32, room: usize) -> Option<Taken> {
-        let mut indexes = vec![0; room.min(self.entries.len())];
+    /// them at most. Takes the marks of those that it tells.
+    pub fn take_changed(&mut self, first: u32, room: usize) -> Result<Taken, TakeError> {
+        let mut indexes = zeroed(room.min(self.entries.len()))?;
         // SAFETY: the entries and the indexes are ours, each as many, and nothing overlaps.
         let taken = unsafe {
             papr_sys::papr_take_changed(
@@ -409,9 +410,12 @@ impl Table {
                 indexes.len(),
             )
         };
+        if taken.rc != papr_sys::PAPR_H_SUCCESS {
+            return Err(TakeError::First(first));
+        }
         indexes.truncate(taken.count as usize);
         let next = taken.next;
-        (taken.rc == papr_sys::PAPR_H_SUCCESS).then_some(Taken { indexes, next })
+        Ok(Taken { indexes, next })
     }
 
     /// The entries of a range as 16 bytes each, R and C in them.
@@ -420,7 +424,10 @@ impl Table {
         layout: Layout,
         range: Range<usize>,
     ) -> Result<Vec<u8>, TransferRefused> {
-        let mut out = vec![0; AN_ENTRY * range.len().min(self.entries.len())];
+        let index = range.start;
+        let refusal = TransferRefusal::NoMemory;
+        let mut out = zeroed(AN_ENTRY * range.len().min(self.entries.len()))
+            .map_err(|NoMemory| TransferRefused { index, refusal })?;
         // SAFETY: the entries are ours, the bytes too, each as many, and nothing overlaps.
         let ended = unsafe {
             papr_sys::papr_export(

@@ -21,6 +21,8 @@ pub enum TransferRefusal {
     Unheld,
     /// H_ENTER would refuse it.
     Unentered,
+    /// There is no memory for the bytes; the index is the first one of the range.
+    NoMemory,
 }
 
 /// A transfer is refused, and nothing changed.

@@ -2,10 +2,10 @@
 
 use crate::answers::{ReceiptRoom, Receipts};
 use crate::entry::Entry;
-use crate::errors::BadWindow;
+use crate::errors::{NoMemory, WindowError};
 use crate::grants::Grants;
+use crate::memory::{copied, zeroed};
 use crate::reply::{Reply, WORDS};
-use alloc::vec;
 use alloc::vec::Vec;
 use papr_sys::papr_device;
 
@@ -61,7 +61,7 @@ impl DeviceAccess {
 }
 
 /// A DMA window: an entry for each of its pages of 4,096 bytes.
-#[derive(Clone, Debug)]
+#[derive(Debug)]
 pub struct Window {
     base: u64,
     entries: Vec<Entry>,
@@ -70,18 +70,27 @@ pub struct Window {
 
 impl Window {
     /// A window of so many pages from the bus address `base` on, in which nothing is set.
-    pub fn new(base: u64, pages: usize, grants: Grants) -> Result<Window, BadWindow> {
+    pub fn new(base: u64, pages: usize, grants: Grants) -> Result<Window, WindowError> {
         let is_window = (1..=PAGES).contains(&pages)
             && base % PAGE == 0
             && base <= END
             && pages as u64 * PAGE <= END - base;
         if !is_window {
-            return Err(BadWindow { base, pages });
+            return Err(WindowError::Range { base, pages });
         }
         Ok(Window {
             base,
-            entries: vec![Entry::default(); pages],
+            entries: zeroed(pages)?,
             grants,
+        })
+    }
+
+    /// Another window with the same entries.
+    pub fn try_clone(&self) -> Result<Window, NoMemory> {
+        Ok(Window {
+            base: self.base,
+            entries: copied(&self.entries)?,
+            grants: self.grants.clone(),
         })
     }
 

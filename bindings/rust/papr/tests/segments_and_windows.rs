@@ -3,7 +3,7 @@
 mod common;
 
 use common::grants;
-use papr::{DeviceOutcome, Error, Segments, Slot, SlotRefusal, Want, Window};
+use papr::{DeviceOutcome, Error, Segments, Slot, SlotRefusal, Want, Window, WindowError};
 
 #[test]
 fn segments() {
@@ -58,7 +58,8 @@ fn windows() {
     assert_eq!(reply.result(), Err(Error::Parameter));
     assert!(window.put_tce(0x8000, 0).is_stale());
     for (base, pages) in [(0x7001, 3), (0x7000, 0), (0, 16_385), (1 << 60, 1)] {
-        assert!(Window::new(base, pages, grants()).is_err());
+        let refused = Window::new(base, pages, grants()).unwrap_err();
+        assert_eq!(refused, WindowError::Range { base, pages });
     }
     assert!(Window::new((1 << 60) - 4096, 1, grants()).is_ok());
 }

@@ -4,9 +4,9 @@ mod common;
 
 use common::{given, grants};
 use papr::{
-    decode, flags, library_version, protection_rights, Access, Answer, BadOrder, Collision,
-    CommitRefused, Entry, Error, Grant, GrantRefusal, Grants, Layout, NoPage, Outcome, Prepared,
-    Range, Receipt, Table, Taken, TransferRefusal, Want,
+    decode, flags, library_version, protection_rights, Access, Answer, Collision, CommitRefused,
+    Entry, Error, Grant, GrantRefusal, Grants, Layout, NoPage, Outcome, Prepared, Range, Receipt,
+    Table, TableError, TakeError, Taken, TransferRefusal, Want,
 };
 
 /// Doubleword 0 of a page of a segment of 1 TB.
@@ -83,7 +83,8 @@ fn orders() {
     assert_eq!(empty_table(22).entries().len(), 1 << 18);
     assert_eq!(empty_table(24).entries().len(), 1 << 20);
     for order in [17, 35] {
-        assert_eq!(Table::new(order, grants()).unwrap_err(), BadOrder(order));
+        let refused = Table::new(order, grants()).unwrap_err();
+        assert_eq!(refused, TableError::Order(order));
     }
 }
 
@@ -137,7 +138,7 @@ fn entries_that_changed() {
     let mut table = table();
     let taken = |indexes: &[u32], next| {
         let indexes = indexes.to_vec();
-        Some(Taken { indexes, next })
+        Ok(Taken { indexes, next })
     };
     assert_eq!(table.take_changed(0, 1), taken(&[0x21], 0x22));
     assert_eq!(table.take_changed(0x22, 9), taken(&[0x22], 1 << 14));
@@ -145,7 +146,8 @@ fn entries_that_changed() {
     assert_eq!(table.take_changed(0, usize::MAX), taken(&[], 1 << 14));
     table.walk(&LOAD);
     assert_eq!(table.take_changed(0, 9), taken(&[0x22], 1 << 14));
-    assert_eq!(table.take_changed((1 << 14) + 1, 9), None);
+    let past = (1 << 14) + 1;
+    assert_eq!(table.take_changed(past, 9), Err(TakeError::First(past)));
 }
 
 #[test]
@@ -394,6 +396,9 @@ fn a_resize() {
     assert_eq!(table.h_resize_hpt_commit(1, 19), refused(Error::Parameter));
     assert_eq!(table.h_resize_hpt_prepare(0, 21, 20), Err(Error::Resource));
     assert_eq!(table.h_resize_hpt_prepare(1, 20, 22), Err(Error::Parameter));
+    // No memory is taken for a table that isn't allowed: one of 24 GB.
+    assert_eq!(table.h_resize_hpt_prepare(0, 34, 22), Err(Error::Resource));
+    assert_eq!(table.h_resize_hpt_prepare(1, 34, 34), Err(Error::Parameter));
     assert_eq!(table.h_resize_hpt_prepare(0, 19, 22), Ok(Prepared::Ready));
     assert_eq!(table.h_resize_hpt_commit(0, 19), Ok(()));
     assert_eq!((table.order(), table.entries().len()), (19, 1 << 15));

@@ -1,5 +1,6 @@
 //! Runs of the program under `par` that a gate of the caller's holds or watches, and one run of
 //! each other command through the same call.
+mod all_at_once;
 mod calls;
 mod commands;
 mod held;

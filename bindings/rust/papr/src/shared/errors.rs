@@ -1,8 +1,8 @@
 //! Why a table isn't opened or closed, or a pass isn't split or joined.
 
+use crate::errors::NoMemory;
 use crate::shared::{Pass, SharedTable};
 use crate::table::Table;
-use alloc::boxed::Box;
 use core::fmt;
 
 /// Why a table isn't opened.
@@ -12,6 +12,12 @@ pub enum OpenError {
     Passes,
     /// H_NO_MEM: there is no memory for it.
     NoMemory,
+}
+
+impl From<NoMemory> for OpenError {
+    fn from(_: NoMemory) -> OpenError {
+        OpenError::NoMemory
+    }
 }
 
 impl fmt::Display for OpenError {
@@ -27,7 +33,7 @@ impl fmt::Display for OpenError {
 #[derive(Debug)]
 pub struct OpenRefused {
     /// The table.
-    pub table: Box<Table>,
+    pub table: Table,
     /// Why it isn't opened.
     pub why: OpenError,
 }
@@ -47,6 +53,12 @@ pub enum SplitError {
     NoShare,
     /// H_NO_MEM: there is no memory for it.
     NoMemory,
+}
+
+impl From<NoMemory> for SplitError {
+    fn from(_: NoMemory) -> SplitError {
+        SplitError::NoMemory
+    }
 }
 
 impl fmt::Display for SplitError {

@@ -1,10 +1,12 @@
 //! A table for several threads at once.
 
 mod busy;
+mod common;
 mod errors;
 mod pass;
 #[cfg(feature = "std")]
 mod patience;
+mod room;
 mod seats;
 
 pub use busy::{Busy, Ended, Hold};
@@ -16,11 +18,10 @@ pub use patience::give_way;
 use crate::grants::Grants;
 use crate::table::Table;
 use alloc::boxed::Box;
-use alloc::sync::Arc;
-use core::fmt;
-use core::mem;
+use common::{Common, Shared};
 use core::ops::RangeInclusive;
-use seats::{Seat, Seats};
+use room::Room;
+use seats::Seat;
 
 /// How many passes may be out: the library has 64 shares, and the table keeps one.
 const PASSES: RangeInclusive<u32> = 1..=63;
@@ -59,36 +60,17 @@ pub struct SharedTable {
 // SAFETY: by a shared reference nothing is done with the pass, and the rest is Sync.
 unsafe impl Sync for SharedTable {}
 
-/// What the passes of one table have in common. The entries of `table` are those from before it was opened.
-struct Shared {
-    table: Table,
-    returned: Seats,
-}
-
-impl fmt::Debug for Shared {
-    /// The entries are many, and aren't shown.
-    fn fmt(&self, f: &mut fmt::Formatter<'_>) -> fmt::Result {
-        let mut shown = f.debug_struct("Shared");
-        shown
-            .field("order", &self.table.order())
-            .finish_non_exhaustive()
-    }
-}
-
 impl SharedTable {
     /// Opens a table for so many passes at once, 1 to 63.
+    // A box would make the refusal small, but it needs memory.
+    #[allow(clippy::result_large_err)]
     pub fn open(table: Table, passes: u32) -> Result<SharedTable, OpenRefused> {
         match opened(&table, passes) {
-            Ok(seat) => {
-                let returned = Seats::default();
-                let shared = Arc::new(Shared { table, returned });
-                let root = Pass::new(seat, shared);
+            Ok((seat, room)) => {
+                let root = Pass::new(seat, Common::new(room, table));
                 Ok(SharedTable { root })
             }
-            Err(why) => {
-                let table = Box::new(table);
-                Err(OpenRefused { table, why })
-            }
+            Err(why) => Err(OpenRefused { table, why }),
         }
     }
 
@@ -135,42 +117,19 @@ impl SharedTable {
     }
 }
 
-/// A pass with all shares of a new table of the library, which has these entries.
-fn opened(table: &Table, passes: u32) -> Result<Box<Seat>, OpenError> {
+/// A pass with all shares of a new table of the library, which has these entries, and memory for what
+/// passes have in common.
+fn opened(table: &Table, passes: u32) -> Result<(Box<Seat>, Room<Shared>), OpenError> {
     if !PASSES.contains(&passes) {
         return Err(OpenError::Passes);
     }
-    let (seat, shares) = (Seat::closed(), passes + 1);
+    let (seat, room, shares) = (Seat::closed()?, Room::new()?, passes + 1);
     let (entries, order) = (table.entries(), table.order());
     // SAFETY: the entries are the table's, and as many; the pass is ours, and closed.
     let code =
         unsafe { papr_sys::papr_open(entries.as_ptr(), entries.len(), order, shares, seat.raw()) };
     match code {
-        papr_sys::PAPR_H_SUCCESS => Ok(seat),
+        papr_sys::PAPR_H_SUCCESS => Ok((seat, room)),
         _ => Err(OpenError::NoMemory),
-    }
-}
-
-impl Shared {
-    /// Closes a table of which this pass has all shares, and gives the table that was opened.
-    fn close(&mut self, seat: &Seat) -> Option<Table> {
-        let entries = self.table.entries_mut();
-        // SAFETY: the entries are the table's, and as many; the pass is ours.
-        let code = unsafe { papr_sys::papr_close(seat.raw(), entries.as_mut_ptr(), entries.len()) };
-        (code == papr_sys::PAPR_H_SUCCESS).then(|| mem::replace(&mut self.table, Table::nothing()))
-    }
-}
-
-impl Drop for Shared {
-    /// Nobody has a pass any more: frees the table of the library, if it isn't closed.
-    fn drop(&mut self) {
-        let mut seats = self.returned.take();
-        if let Some(mut first) = seats.next() {
-            for other in seats {
-                first.join(&other);
-            }
-            let closed = self.close(&first);
-            debug_assert!(closed.is_some(), "all shares are there");
-        }
     }
 }

@@ -1,15 +1,14 @@
 //! The right of one thread to work on a table.
 
 use super::busy::{Busy, Ended};
+use super::common::{Common, Shared};
 use super::errors::SplitError;
 use super::seats::Seat;
-use super::Shared;
 use crate::answers::{ReceiptRoom, RECEIPTS};
 use crate::reply::{Reply, WORDS};
 use crate::table::Table;
 use crate::walk::{Access, Walk};
 use alloc::boxed::Box;
-use alloc::sync::Arc;
 use core::mem::ManuallyDrop;
 use papr_sys::{papr_grants, papr_pass, papr_receipt, papr_reply, papr_walk};
 
@@ -26,7 +25,7 @@ use papr_sys::{papr_grants, papr_pass, papr_receipt, papr_reply, papr_walk};
 pub struct Pass {
     // The library's pass in it is neither Send nor Sync by itself.
     seat: ManuallyDrop<Box<Seat>>,
-    shared: Arc<Shared>,
+    shared: Common,
 }
 
 // SAFETY: a pass of the library may move from thread to thread, if something orders its calls; what
@@ -44,7 +43,7 @@ struct Lent {
 /// What belongs to a table.
 impl Pass {
     /// A pass of the library as one of this table.
-    pub(super) fn new(seat: Box<Seat>, shared: Arc<Shared>) -> Pass {
+    pub(super) fn new(seat: Box<Seat>, shared: Common) -> Pass {
         Pass {
             seat: ManuallyDrop::new(seat),
             shared,
@@ -58,20 +57,20 @@ impl Pass {
 
     /// Whether two passes are of one table.
     pub(super) fn is_of_one_table(&self, other: &Pass) -> bool {
-        Arc::ptr_eq(&self.shared, &other.shared)
+        self.shared.is_that_of(&other.shared)
     }
 
     /// Whether no other pass is there.
     pub(super) fn is_alone(&mut self) -> bool {
-        Arc::get_mut(&mut self.shared).is_some()
+        self.shared.alone().is_some()
     }
 
     /// A new pass, with one of the shares of this one.
     pub(super) fn split(&mut self) -> Result<Pass, SplitError> {
-        let other = Seat::closed();
+        let other = Seat::closed()?;
         // SAFETY: both passes are ours, and the other one is closed.
         match unsafe { papr_sys::papr_split(self.seat.raw(), other.raw()) } {
-            papr_sys::PAPR_H_SUCCESS => Ok(Pass::new(other, Arc::clone(&self.shared))),
+            papr_sys::PAPR_H_SUCCESS => Ok(Pass::new(other, self.shared.clone())),
             papr_sys::PAPR_H_NO_MEM => Err(SplitError::NoMemory),
             _ => Err(SplitError::NoShare),
         }
@@ -86,7 +85,7 @@ impl Pass {
 
     /// Closes the table, if this pass is alone and has all shares.
     pub(super) fn close(&mut self) -> Option<Table> {
-        Arc::get_mut(&mut self.shared)?.close(&self.seat)
+        self.shared.alone()?.close(&self.seat)
     }
 }
 

@@ -1,5 +1,7 @@
 //! Passes of the library, and those that were dropped.
 
+use super::room::Room;
+use crate::errors::NoMemory;
 use crate::reply::Reply;
 use alloc::boxed::Box;
 use core::cell::UnsafeCell;
@@ -19,16 +21,16 @@ pub(super) struct Seat {
 
 impl Seat {
     /// A pass that is closed.
-    pub(super) fn closed() -> Box<Seat> {
+    pub(super) fn closed() -> Result<Box<Seat>, NoMemory> {
         let closed = papr_pass {
             at: ptr::null_mut(),
             live: false,
         };
-        Box::new(Seat {
+        Ok(Room::new()?.filled(Seat {
             raw: UnsafeCell::new(closed),
             next: ptr::null_mut(),
             so_far: None,
-        })
+        }))
     }
 
     /// What the library takes for it.

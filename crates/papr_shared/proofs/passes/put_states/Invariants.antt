@@ -1,7 +1,10 @@
-use Rattle.std.proofs.Common.{◌≡◌, ◌++◌, take, drop}
-use Rattle.c_layout.specs.Entries.{entries_with}
+use Rattle.shared_pass.specs.Reading.{OnlyReads}
+use Rattle.papr_shared.proofs.PutStates.{ArePut}
 use Rattle.papr_shared.proofs.passes.put_states.Given as goal
 
-abbrev pub invariant-loop-i : goal.invariant-loop-i
-invariant-loop-i l =
-    l.entries ≡ take l.i (entries_with l.initial.entries l.states) ++ drop l.i l.initial.entries
+abbrev pub invariant-loop-entry : goal.invariant-loop-entry
+invariant-loop-entry l =
+    record {
+      same : OnlyReads l.initial.working.sharer l.working.sharer;
+      put : ArePut l.initial.working.sharer l.initial.entries l.entries l.entry;
+    }

@@ -65,6 +65,21 @@ impl Hold {
     }
 }
 
+/// Holds whoever comes to a place in a line until another line's place is reached.
+pub const fn held_until(at: (Place, u32), until: (Place, u32), comes: bool) -> Hold {
+    Hold {
+        at: Point {
+            place: at.0,
+            line: at.1,
+        },
+        until: Point {
+            place: until.0,
+            line: until.1,
+        },
+        comes,
+    }
+}
+
 /// The most calls that are kept.
 const MOST: u64 = 256;
 

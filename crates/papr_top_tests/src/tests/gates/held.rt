@@ -1,7 +1,7 @@
 //! The gate holds one processor while another one gets on. Where lines ran one after the other, the
 //! wait would end too late.
 use super::answered;
-use super::calls::{Calls, Hold, Place, Point};
+use super::calls::{Calls, Hold, Place, held_until};
 use papr_top::Status;
 use std::alloc::Global;
 use std::process::Abort;
@@ -18,21 +18,6 @@ struct Held<'a> {
     text: &'a str,
     calls: &'a [(u64, &'a str)],
     count: u64,
-}
-
-/// Holds whoever comes to a place in a line until another line's place is reached.
-const fn hold(at: (Place, u32), until: (Place, u32), comes: bool) -> Hold {
-    Hold {
-        at: Point {
-            place: at.0,
-            line: at.1,
-        },
-        until: Point {
-            place: until.0,
-            line: until.1,
-        },
-        comes,
-    }
 }
 
 /// Runs the trace by threads, and compares what came of it.
@@ -63,7 +48,7 @@ begin
 1 H_ENTER 0x8000000000 0x20 0x1001 0x3012
 2 H_ENTER 0x8000000000 0x20 0x1001 0x4012
 ",
-        holds: &[hold((Place::Before, 5), (Place::After, 6), true)],
+        holds: &[held_until((Place::Before, 5), (Place::After, 6), true)],
         text: "5 1 H_ENTER -6 | 0x20.1.0.taken
 6 2 H_ENTER 0 0x20 | 0x20.0.0.entered
 ",
@@ -89,8 +74,8 @@ begin
 2 H_ENTER 0x8000000000 0x21 0x1001 0x3012
 ",
         holds: &[
-            hold((Place::Before, 6), (Place::Step, 5), true),
-            hold((Place::Step, 5), (Place::After, 6), true),
+            held_until((Place::Before, 6), (Place::Step, 5), true),
+            held_until((Place::Step, 5), (Place::After, 6), true),
         ],
         text: "5 1 H_BULK_REMOVE 0 0x9000000000000020 0x0 0x8000000000000021 0x0 \
             0xc000000000000000 0x0 0x0 0x0 | 0x20.0.0.notfound 0x21.1.0.removed
@@ -121,11 +106,11 @@ begin
 3 H_READ 0x0 0x20
 ",
         holds: &[
-            hold((Place::Before, 6), (Place::Held, 5), true),
-            hold((Place::Before, 7), (Place::Held, 5), true),
-            hold((Place::Held, 5), (Place::After, 6), true),
-            hold((Place::Held, 5), (Place::Before, 7), true),
-            hold((Place::Held, 5), (Place::After, 7), false),
+            held_until((Place::Before, 6), (Place::Held, 5), true),
+            held_until((Place::Before, 7), (Place::Held, 5), true),
+            held_until((Place::Held, 5), (Place::After, 6), true),
+            held_until((Place::Held, 5), (Place::Before, 7), true),
+            held_until((Place::Held, 5), (Place::After, 7), false),
         ],
         text: "5 1 H_ENTER 0 0x20 | 0x20.0.0.entered
 6 2 H_ENTER 0 0x28 | 0x28.0.0.entered
@@ -158,8 +143,8 @@ dump
 2 load 0x5000 priv
 ",
         holds: &[
-            hold((Place::Before, 9), (Place::Held, 8), true),
-            hold((Place::Held, 8), (Place::After, 9), true),
+            held_until((Place::Before, 9), (Place::Held, 8), true),
+            held_until((Place::Held, 8), (Place::After, 9), true),
         ],
         text: "5 2 slbmte ok
 6 0 H_ENTER 0 0x20 | 0x20.0.0.entered
@@ -172,6 +157,31 @@ dump
             (0, "before 0 6\nheld 0 6\nafter 0 6\n"),
             (1, "before 1 8\nheld 1 8\nafter 1 8\n"),
             (2, "before 2 5\nafter 2 5\nbefore 2 9\nafter 2 9\n"),
+        ],
+        count: 10,
+    };
+    run_held(&rt, rt.alloc(), &row)
+}
+
+/// Processor 1 is held before line 6 until line 7, on the same window, was answered.
+#[test]
+fn a_line_on_a_window_is_answered_while_an_earlier_one_waits(rt: HostRuntime) -> Result<(), Fail> {
+    let row = Held {
+        input: "order 18
+cpus 3
+ram 0x0 0x2000000000 0x40000000
+window 0x10 0x0 16
+begin
+1 H_PUT_TCE 0x10 0x5000 0x3003
+2 H_PUT_TCE 0x10 0x5000 0x4003
+",
+        holds: &[held_until((Place::Before, 6), (Place::After, 7), true)],
+        text: "6 1 H_PUT_TCE 0 | 0x5.1.0.removed 0x5.2.0.entered
+7 2 H_PUT_TCE 0 | 0x5.0.0.notfound 0x5.0.0.entered
+",
+        calls: &[
+            (1, "before 1 6\nheld 1 6\nstep 1 6\nheld 1 6\nafter 1 6\n"),
+            (2, "before 2 7\nheld 2 7\nstep 2 7\nheld 2 7\nafter 2 7\n"),
         ],
         count: 10,
     };

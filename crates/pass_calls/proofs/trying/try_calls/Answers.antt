@@ -1,4 +1,4 @@
-use Rattle.std.proofs.Common.{◌≡◌, ◌<◌, ◌≤◌, length, false, true, List, [], ◌∷◌, ◌++◌, arith, ap, sym, subst, ◌∙◌, append-nil}
+use Rattle.std.proofs.Common.{◌≡◌, ◌<◌, ◌≤◌, length, false, true, List, [], ◌∷◌, ◌++◌, arith, rules, ap, sym, subst, ◌∙◌, append-nil}
 use Rattle.std.proofs.lemmas.Grind.{common_steps}
 use Rattle.hpte_fields.specs.TableSize.{entry_count}
 use Rattle.entry_model.specs.declared.receipt.Receipt.{Receipt}
@@ -58,6 +58,14 @@ returns-in_err-made-clause-made g c =
     subst (g.S.TriedStore.made c.args.store.now c.try_apply.new.self) (append-nil so_far)
     (g.met.S.TriedStore.made_more _ _ _ so_far [] c.loop-i.invariant.made
     c.in_err-made.ensures.nothing)
+
+pub returns-in_err-made-clause-told : goal.returns-in_err-made-clause-told
+returns-in_err-made-clause-told g c =
+    let busy = c.in_err-made.field-0.0 in
+    let told = subst (λ entry. g.S.TriedStore.told c.loop-i.store c.try_apply.new.self entry busy)
+    (sym c.in_err-made.ensures.busy.of) c.in_err-made.ensures.told in
+    let since = g.met.S.TriedStore.told_since _ _ _ _ _ _ c.loop-i.invariant.made told in
+    search rules
 
 pub loop-i-preserved : goal.loop-i-preserved
 loop-i-preserved g c =

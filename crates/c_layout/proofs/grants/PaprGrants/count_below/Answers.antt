@@ -10,5 +10,5 @@ loop-low-preserved c = record {
   above =
       λ k from inside.
       above_more c.args.self.now.grants c.args.self.now.count _ c.args.logical
-      c.args.self.now.in_order c.if-self-middle.false k from inside;
+      (c.args.self.now.in_order c.requires.few) c.if-self-middle.false k from inside;
 }

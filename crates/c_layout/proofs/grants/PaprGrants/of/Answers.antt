@@ -13,12 +13,17 @@ loop-i-preserved c = record {
       c.loop-i-test.true c.loop-i.invariant.same c.of.ensures;
 }
 
-pub invariant_of-result-clause-in_order : goal.invariant_of-result-clause-in_order
-invariant_of-result-clause-in_order c =
+pub invariant_of-result : goal.invariant_of-result
+invariant_of-result c =
     let all : c.loop-i.i ≡ length c.args.grants.now = omega
     (arith, c.loop-i-test.false, c.loop-i.auto.i-end) in
     let same = rw all at c.loop-i.invariant.same in
-    in_order c.loop-i.list c.args.grants.now
-    (omega (arith, c.loop-i.invariant.room, c.requires.few))
-    (same ∙ take_all (length c.args.grants.now) c.args.grants.now (omega arith))
-    c.requires.apart
+    record {
+      room = c.loop-i.invariant.room;
+      in_order =
+          λ few.
+          in_order c.loop-i.list c.args.grants.now
+          (omega (arith, c.loop-i.invariant.room, c.requires.few))
+          (same ∙ take_all (length c.args.grants.now) c.args.grants.now (omega arith))
+          c.requires.apart;
+    }

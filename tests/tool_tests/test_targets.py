@@ -1,4 +1,4 @@
-"""Tests of what is built for aarch64, which qemu-aarch64 runs: it answers as the program and the libraries here do."""
+"""Tests of what is built for other processors, which qemu runs: it answers as the program and the libraries here do."""
 
 import os
 import re
@@ -10,10 +10,10 @@ from pathlib import Path
 from typing import ClassVar
 
 from .built import OBJECTS, declared
-from .emulator import BUILT, COMPILER, emulated, needs_aarch64
+from .emulator import AARCH64, PPC64LE, RISCV64, Emulated
 from .stand_in import Checkout
-from .support import DATA, EXAMPLES, MAJOR, PROGRAM, TOP, Ran, Text, ToolTest, Word, for_each, needs, needs_program
-from .support import run, run_bytes, write_script
+from .support import DATA, EXAMPLES, MAJOR, PROGRAM, TOP, VERSION, Ran, Text, ToolTest, Word, for_each, needs
+from .support import needs_program, run, run_bytes, write_script
 
 TRACES = sorted(path.stem for path in EXAMPLES.glob("*.trace"))
 STRICT = ("-std=gnu11", "-O2", "-Wall", "-Wextra", "-Werror", f"-I{TOP / 'include'}")
@@ -40,40 +40,63 @@ WORDS = (
 
 
 class Without(ToolTest):
-    """A build where there is no cross compiler."""
+    """A build that can't be made here."""
 
     def setUp(self) -> None:
         super().setUp()
         self.checkout = Checkout(self.folder)
         shutil.copy(TOP / "VERSION", self.checkout.top)
-        shutil.copytree(TOP / "tools" / "aarch64", self.checkout.top / "tools" / "aarch64")
-        self.built = write_script(self.checkout.top / "out" / "aarch64" / "papr", "")
+        shutil.copytree(TOP / "tools" / "targets", self.checkout.top / "tools" / "targets")
         (self.folder / "bin").mkdir()
         (self.folder / "bin" / "python3").symlink_to(sys.executable)
 
     def build(self, *words: str) -> Ran:
         """Runs the build with no command but Python."""
-        tool = self.checkout.top / "tools" / "aarch64" / "build-aarch64"
+        tool = self.checkout.top / "tools" / "targets" / "build-for"
         return run(tool, *words, environment={"PATH": str(self.folder / "bin")})
 
-    def test_it_is_refused(self) -> None:
-        told = f"build-aarch64: {COMPILER} isn't here; Debian's package gcc-aarch64-linux-gnu has it"
-        self.assert_refused(self.build(), told)
-        self.assertTrue(self.built.exists())
+    def older(self, name: str) -> Path:
+        """A program that was built for a processor before."""
+        return write_script(self.checkout.top / "out" / name / "papr", "")
+
+    @for_each(
+        ("aarch64", "aarch64-linux-gnu-gcc", "gcc-aarch64-linux-gnu"),
+        ("ppc64le", "clang-19", "clang-19"),
+        ("riscv64", "riscv64-linux-gnu-gcc", "gcc-riscv64-linux-gnu"),
+    )
+    def test_it_is_refused_without(self, words: tuple[str, str, str]) -> None:
+        name, command, package = words
+        older = self.older(name)
+        self.assert_refused(self.build(name), f"build-for: {command} isn't here; Debian's package {package} has it")
+        self.assertTrue(older.exists())
 
     def test_where_it_need_not_be_built_nothing_older_is_left(self) -> None:
-        told = f"build-aarch64: nothing is built for aarch64: {COMPILER} isn't here\n"
-        self.assert_ran(self.build("--if-possible"), err=told)
-        self.assertFalse(self.built.parent.exists())
+        older = [self.older(name) for name in ("aarch64", "ppc64le")]
+        told = (("aarch64", "aarch64-linux-gnu-gcc"), ("ppc64le", "clang-19"))
+        lines = [f"build-for: nothing is built for {name}: {command} isn't here\n" for name, command in told]
+        self.assert_ran(self.build("--if-possible", "aarch64", "ppc64le"), err="".join(lines))
+        self.assertEqual([path for path in older if path.parent.exists()], [])
+
+    @for_each("s390x", "ppc64")
+    def test_there_is_nothing_for_the_big_endian(self, name: str) -> None:
+        told = (
+            f"build-for: {name} is big-endian, and nothing is built for such a processor: the toolchain lowers the"
+            " sources for memory in which a number's least significant byte comes first"
+        )
+        self.assert_refused(self.build("--if-possible", name), told)
+
+    def test_a_processor_that_is_not_known(self) -> None:
+        self.assert_refused(self.build("vax"), "build-for: vax is none of aarch64, ppc64le, riscv64")
 
 
-@needs_aarch64
-class Program(ToolTest):
-    """The program over the library of the program on bytes."""
+class ProgramCases(ToolTest):
+    """The program over the library of the program on bytes. The classes below have the cases for each processor."""
+
+    machine: ClassVar[Emulated]
 
     def setUp(self) -> None:
         super().setUp()
-        self.papr = emulated(BUILT / "papr", self.folder)
+        self.papr = self.machine.emulated(self.machine.built / "papr", self.folder)
 
     def shell(self, command: str) -> Ran:
         """Runs a line of the shell, in which $0 is the program."""
@@ -138,32 +161,34 @@ class Program(ToolTest):
         self.assertEqual(self.shell(f'"$0" run <"{trace}" >/dev/full').status, 4)
 
 
-@needs_aarch64
-class Library(ToolTest):
-    """The archives and the shared object of the libraries for C."""
+class LibraryCases(ToolTest):
+    """The archives and the shared objects of the libraries. The classes below have the cases for each processor."""
 
+    machine: ClassVar[Emulated]
     programs: ClassVar[Path]
 
     @classmethod
     def setUpClass(cls) -> None:
         """Builds programs over each, once for the class."""
         super().setUpClass()
-        work = tempfile.TemporaryDirectory(prefix="papr-aarch64-")
+        work = tempfile.TemporaryDirectory(prefix=f"papr-{cls.machine.name}-")
         cls.addClassCleanup(work.cleanup)
         cls.programs = Path(work.name)
+        built = cls.machine.built
         ways: dict[str, list[Word]] = {
-            "archive": [BUILT / "libpapr_shared.a", BUILT / "libpapr.a"],
-            "shared": [f"-L{BUILT}", "-lpapr"],
+            "archive": [built / "libpapr_shared.a", built / "libpapr.a"],
+            "shared": [f"-L{built}", "-lpapr"],
         }
+        compiled = (cls.machine.compiler, *STRICT, "-pthread")
         for way, library in ways.items():
             for name, sources in SOURCES.items():
-                ran = run(COMPILER, *STRICT, "-pthread", *sources, *library, "-o", cls.programs / f"{name}-{way}")
+                ran = run(*compiled, *sources, *library, "-o", cls.programs / f"{name}-{way}")
                 if (ran.status, ran.err) != (0, ""):
                     raise OSError(f"{name} doesn't build: {ran.err}")
 
     def run_program(self, name: str, *words: str, given: Text = "") -> Ran:
         """Runs one of the programs."""
-        return run(emulated(self.programs / name, self.folder), *words, given=given)
+        return run(self.machine.emulated(self.programs / name, self.folder), *words, given=given)
 
     @for_each("archive", "shared")
     def test_each_field_has_the_value_that_its_call_gives_it(self, way: str) -> None:
@@ -182,14 +207,62 @@ class Library(ToolTest):
         ran = self.run_program(f"hammer-{way}", "4", "1000", "check")
         self.assert_ran(ran, out=None)
         self.assertIn("each entry has one legal history", ran.out)
+        told = rf"hammer of papr {re.escape(VERSION)} on {self.machine.name} with [0-9]+ processors, Linux [^ ]+"
+        self.assertRegex(ran.out.splitlines()[-1], rf"\A{told}: 4 threads, 4000 calls, check: well\Z")
 
-    @needs("aarch64-linux-gnu-nm", "aarch64-linux-gnu-readelf")
     @for_each(*OBJECTS)
     def test_the_shared_object_is_as_the_one_here(self, variable: str) -> None:
         """It exports the functions of the headers, which that one does."""
         name, parts = OBJECTS[variable]
-        told = run_bytes("aarch64-linux-gnu-nm", "-D", "--defined-only", BUILT / name).decode().splitlines()
+        place, tools = self.machine.built / name, self.machine.tools
+        told = run_bytes(f"{tools}-nm", "-D", "--defined-only", place).decode().splitlines()
         self.assertEqual([line.split()[1:] for line in told], [["T", function] for function in declared(*parts)])
-        head = run("aarch64-linux-gnu-readelf", "-h", "-d", BUILT / name).out
+        head = run(f"{tools}-readelf", "-h", "-d", place).out
         self.assertIn(f"[{name.partition('.so')[0]}.so.{MAJOR}]", head)
-        self.assertIn("AArch64", head)
+        self.assertRegex(head, rf"Machine: +{self.machine.told}\n")
+
+
+@AARCH64.needed
+class ProgramOfAarch64(ProgramCases):
+    """The program for aarch64."""
+
+    machine = AARCH64
+
+
+@PPC64LE.needed
+class ProgramOfPpc64le(ProgramCases):
+    """The program for powerpc64le."""
+
+    machine = PPC64LE
+
+
+@RISCV64.needed
+class ProgramOfRiscv64(ProgramCases):
+    """The program for riscv64."""
+
+    machine = RISCV64
+
+
+@AARCH64.needed
+class LibraryOfAarch64(LibraryCases):
+    """The libraries for aarch64."""
+
+    machine = AARCH64
+
+
+@PPC64LE.needed
+class LibraryOfPpc64le(LibraryCases):
+    """The libraries for powerpc64le."""
+
+    machine = PPC64LE
+
+
+@RISCV64.needed
+class LibraryOfRiscv64(LibraryCases):
+    """The libraries for riscv64."""
+
+    machine = RISCV64
+
+
+# They are of no processor by themselves.
+del ProgramCases, LibraryCases

@@ -14,7 +14,7 @@ from typing import Any, Callable
 
 import common  # noqa: F401  (it finds the package papr)
 import papr
-from checks.running import Failed, Skipped
+from checks.running import Failed, need_library
 from papr.numbers import WORDS
 
 CALLS = 100  # on one table
@@ -167,10 +167,7 @@ def add_options(parser: argparse.ArgumentParser) -> None:
 
 def check(given: argparse.Namespace) -> str:
     """Calls with drawn numbers, for some time."""
-    try:
-        papr.library_version()
-    except papr.LibraryMissing as error:
-        raise Skipped(f"{error}; make library makes it") from error
+    need_library()
     ends: Counter[str] = Counter()
     seed, end = given.seed * 1_000_000, time.monotonic() + given.seconds
     while time.monotonic() < end:

@@ -26,7 +26,7 @@ from types import FrameType, ModuleType
 from typing import Any, Callable, Optional
 
 import common
-from checks.running import Failed, Program, add_program, program_of
+from checks.running import Failed, Program, add_program, need_library, program_of
 from checks.tool_cases import Case, Cases
 from crates import TOP
 
@@ -34,7 +34,7 @@ TOOLS = TOP / "tools"
 FOLDERS = {"judge-recording": TOOLS / "qemu-papr"}
 ANSWERS = {"diff", "why", "bad-line", "judge-recording", "find-order"}  # tools for which 1 is an answer
 BY_PROGRAM = {"why", "bad-line", "judge-recording", "find-order"}  # tools that ask the launcher for the program
-REFUSED, UNDECIDED, MISSING = 2, 3, 127
+REFUSED, UNDECIDED = 2, 3
 SECONDS = 10  # of the processor for a run here
 PATIENCE = 120  # seconds for one that is a process
 APART = 0.4  # of the time is for processes
@@ -182,7 +182,8 @@ def add_options(parser: argparse.ArgumentParser) -> None:
 
 
 def check(given: argparse.Namespace) -> str:
-    """Changed inputs, for some time."""
+    """Changed inputs, for some time. Tools that decode entries load the library."""
+    need_library()
     kept = Path(tempfile.mkdtemp(prefix="papr-fuzz-tools-"))
     fuzz = Fuzz(program_of(given), given.seed, kept)
     fuzz.try_for(given.seconds)

@@ -7,6 +7,8 @@ from dataclasses import dataclass
 from pathlib import Path
 from typing import Callable, Optional, Protocol, Sequence
 
+import common  # noqa: F401  (it finds the package papr)
+import papr
 from crates import TOP
 
 EXAMPLES = TOP / "examples"
@@ -31,6 +33,14 @@ class Check(Protocol):
 
     def check(self, given: argparse.Namespace) -> str:
         """Says what was looked at and found right. Raises `Failed` or `Skipped` otherwise."""
+
+
+def need_library() -> None:
+    """Skips a check whose runs call the library for C, if it isn't built."""
+    try:
+        papr.library_version()
+    except papr.LibraryMissing as error:
+        raise Skipped(f"{error}; make library makes it") from error
 
 
 @dataclass(frozen=True)

@@ -263,4 +263,3 @@ class Histories:
             if access.ended != before:
                 again |= {other for other, _operation in access.operations if other in self.told}
         return sorted(again - {entry})
-

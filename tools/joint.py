@@ -196,4 +196,3 @@ def filled(lines: Cached, page: Page, entry: Optional[int]) -> Cached:
     if len(same_set) == LINES:
         kept = tuple(line for line in kept if line != same_set[0])
     return (*kept, (page, entry, True))
-

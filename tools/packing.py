@@ -1,4 +1,4 @@
-"""Packing a folder so that the same files give the same bytes: no clock, owner, order or setting of a machine gets in."""
+"""Packing a folder so that the same files give the same bytes: no time, owner, order or setting of a machine is in."""
 
 import hashlib
 import io

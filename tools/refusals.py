@@ -167,11 +167,11 @@ PARTS: dict[str, Callable[[Refused], Optional[int]]] = {
 
 def grants_before(refused: Refused) -> Iterator[tuple[int, Grant]]:
     """The grants of the lines before, each with its line."""
-    for number, words in refused.before():
+    for line, words in refused.before():
         found = [number_in(words, place) for place in (1, 2, 3)]
         given = [value for value in found if value is not None]
         if words[:1] in (["ram"], ["io"]) and len(given) == len(found):
-            yield number, Grant(words[0], *given)
+            yield line, Grant(words[0], *given)
 
 
 def cause_of_parameter(refused: Refused, dword0: int, dword1: int) -> str:
@@ -310,10 +310,10 @@ def hint_of_overlap(_formats: str, refused: Refused) -> Optional[str]:
     given = [value for place in (1, 2, 3) if (value := number_in(refused.own_words, place)) is not None]
     if len(given) == 3:
         own = Grant(refused.own_words[0], *given)
-        for number, grant in grants_before(refused):
+        for line, grant in grants_before(refused):
             if grants.meets(own.pages, grant.pages) or grants.meets(own.frames, grant.frames):
                 which = "logical" if grants.meets(own.pages, grant.pages) else "machine"
-                return f"its {which} range meets that of line {number}, {grant}"
+                return f"its {which} range meets that of line {line}, {grant}"
     return None
 
 

@@ -32,6 +32,8 @@ def judged(replies: str) -> bytes:
     return f"{GRANT}{ENTER}replies\n{replies}".encode()[:MOST_INPUT]
 
 
+BACKWARD = range(2**19, 0, -1)  # stamps of one entry, the last one first
+
 # A name by whose end the command is chosen, what is in the file, and what the status begins with.
 INPUTS: tuple[tuple[str, Callable[[], bytes], str], ...] = (
     ("feeds.trace", lambda: b"\n" * MOST_INPUT, "2: line 131073 is refused: lines"),
@@ -39,7 +41,7 @@ INPUTS: tuple[tuple[str, Callable[[], bytes], str], ...] = (
     ("packed.trace.xz", lambda: lzma.compress(b"0 load 0x0 priv\n" * 2**20), "2: line 1 is refused: place"),
     ("loads.trace", loads, "0: done"),
     ("dump.judged", lambda: judged(f"4 0 H_ENTER 0 0x27 | 0x27.0.0.entered\n{' x' * 8}\n" + " x\n" * 2**21), "6: bad"),
-    ("backward.judged", lambda: judged("".join(f"4 0 n | 0x27.{at}.0.taken\n" for at in range(2**19, 0, -1))), "6: bad"),
+    ("backward.judged", lambda: judged("".join(f"4 0 n | 0x27.{at}.0.taken\n" for at in BACKWARD)), "6: bad"),
     ("names.judged", lambda: judged("".join(f"4 0 n{at} 0 | 0x27.0.0.taken\n" for at in range(2**18))), "6: bad"),
     ("spread.judged", lambda: judged("".join(f"4 0 n x | 0x{at:x}.0.0.taken\n" for at in range(2**18))), "6: bad"),
     ("reply.judged", lambda: judged("4 0 H_ENTER 0 0x27 |" + " 0x27.0.0.entered" * 2**20), "6: bad"),

@@ -6,7 +6,6 @@ import tempfile
 import xml.etree.ElementTree as ET
 from collections import Counter
 from collections.abc import Callable
-from pathlib import Path
 from typing import Any
 
 from common import Bad

@@ -1,9 +1,9 @@
 """Each allocation refused in turn, as a table in docs/HOSTILE.md.
 
-Runs the program on traces with a store and an H_PROTECT, with resizes, of two and of three processors under
-`par`, with a dump, on a refused trace, a set, drills and wrong words, with the first allocation refused, then the second, and so on until none is. Each run
-has to end with status 5 and nothing written, or as it ends where none is refused. Compares how many
-allocations were refused for each, and which of them the program did without, with the table.
+Runs the program on traces with a store and an H_PROTECT, with resizes, of two and of three processors under `par`,
+with a dump, on a refused trace, a set, drills and wrong words, with the first allocation refused, then the second, and
+so on until none is. Each run has to end with status 5 and nothing written, or as it ends where none is refused.
+Compares how many allocations were refused for each, and which of them the program did without, with the table.
 
 An allocation is a call of malloc, calloc, realloc or an aligned one, by the program or by its C library: a
 small library that counts them (refuse.c) is compiled by `cc` and loaded before the others. --try does the

@@ -1,4 +1,4 @@
-"""The scripts beside the proved program, by mypy, ruff and shellcheck.
+"""The scripts beside the proved program, by mypy, ruff or else flake8, and shellcheck.
 
 Looks at the scripts of Python and of the shell in .ci/, bench/, bindings/, completions/, examples/, page/, tests/,
 tools/ and at the top, by the settings in pyproject.toml; at a file that scripts source, with them. A tool that isn't
@@ -10,6 +10,7 @@ import os
 import shutil
 import subprocess
 import sys
+import tomllib
 from pathlib import Path
 from typing import Iterator, Optional, Sequence
 
@@ -22,6 +23,8 @@ PYTHON, SHELL = "python", "shell"
 # Debian's python3-mypy is a module of its own Python and has no command.
 MYPY = (["mypy"], [sys.executable, "-m", "mypy"], ["/usr/bin/python3", "-m", "mypy"])
 RUFF = (["ruff"], [sys.executable, "-m", "ruff"])
+FLAKE8 = (["flake8"], [sys.executable, "-m", "flake8"])
+WITH_SPACES = "E203,W503"  # what flake8 says of slices and operators that are set as its own rules want them
 SHELLCHECK = (["shellcheck"],)
 # The tools see no module of this repository among their own.
 ENVIRONMENT = {name: value for name, value in os.environ.items() if name != "PYTHONPATH"}
@@ -71,6 +74,18 @@ def run(ways: Sequence[list[str]], words: Sequence[str], scripts: Sequence[str])
     return is_clean
 
 
+def run_style(scripts: Sequence[str]) -> dict[str, Optional[bool]]:
+    """What ruff says of these scripts, or flake8 by the same settings if ruff isn't here."""
+    by_ruff = run(RUFF, ["check", "--quiet"], scripts)
+    if by_ruff is not None:
+        return {"ruff": by_ruff}
+    settings = tomllib.loads((TOP / "pyproject.toml").read_text(encoding="utf-8"))["tool"]["ruff"]
+    rules = ",".join(settings["lint"]["select"])
+    words = ["--isolated", f"--max-line-length={settings['line-length']}", f"--select={rules}"]
+    by_flake8 = run(FLAKE8, [*words, f"--extend-ignore={WITH_SPACES}"], scripts)
+    return {"flake8": by_flake8} if by_flake8 is not None else {"ruff or flake8": None}
+
+
 def add_options(_parser: argparse.ArgumentParser) -> None:
     """This check has no options."""
 
@@ -82,7 +97,7 @@ def check(_given: argparse.Namespace) -> str:
         scripts[kind_of(path)].append(str(path.relative_to(TOP)))
     ends = {
         "mypy": run(MYPY, [], scripts[PYTHON]),
-        "ruff": run(RUFF, ["check", "--quiet"], scripts[PYTHON]),
+        **run_style(scripts[PYTHON]),
         "shellcheck": run(SHELLCHECK, ["-x", "-S", "warning"], scripts[SHELL]),
     }
     unclean = [name for name, is_clean in ends.items() if is_clean is False]
@@ -90,7 +105,7 @@ def check(_given: argparse.Namespace) -> str:
         raise Failed(f"not clean by {' and '.join(unclean)}")
     clean = [name for name, is_clean in ends.items() if is_clean]
     if not clean:
-        raise Skipped("neither mypy nor ruff nor shellcheck is here")
+        raise Skipped("neither mypy nor ruff nor flake8 nor shellcheck is here")
     missing = [name for name, is_clean in ends.items() if is_clean is None]
     without = f"; without {' and '.join(missing)}" if missing else ""
     counts = f"{len(scripts[PYTHON])} scripts of Python and {len(scripts[SHELL])} of the shell"

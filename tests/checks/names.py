@@ -48,7 +48,9 @@ ELSEWHERE = {
         *("ArrayVec", "Threads+Wait", "Wait", "ensures", "may_wait", "may_wait=", "requires"),
         *("clock.rt", "rt check", "rt ci", "rt run", "rt try", "rt try --fail-alloc"),
     ),
-    "Python": ("MemoryError", "OverflowError", "PYTHONSAFEPATH", "TypeError", "lzma", "pickle", "pip install", "tarfile"),
+    "Python": (
+        *("MemoryError", "OverflowError", "PYTHONSAFEPATH", "TypeError", "lzma", "pickle", "pip install", "tarfile"),
+    ),
     "other programs": (
         *("clang-19", "dpkg-deb", "pkg-config", "sha256sum"),
         *("gcc-aarch64-linux-gnu", "gcc-powerpc64le-linux-gnu", "gcc-riscv64-linux-gnu"),

@@ -33,7 +33,6 @@ class Plain:
         return self.text
 
 
-
 @dataclass(frozen=True)
 class Copies:
     """A text so many times, in which `{8+2}` and `{0x8+2}` stand for numbers that grow by a step."""
@@ -53,7 +52,6 @@ class Copies:
                     yield hex(number) if parts[at + 1].startswith("0x") else str(number)
 
         return "".join("".join(one(copy)) for copy in range(self.times)).encode()
-
 
 
 Text = list[Union[Plain, Copies]]

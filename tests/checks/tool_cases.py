@@ -123,7 +123,8 @@ class Cases:
     def find_order(self) -> Case:
         """Replies of a trace, one of them or both changed, in a search of few steps."""
         place = self.draw.randrange(len(REPLIES))
-        files = [self.file("trace", TRACES[place : place + 1] or TRACES), self.file("replies", REPLIES[place : place + 1])]
+        trace, replies = TRACES[place : place + 1] or TRACES, REPLIES[place : place + 1]
+        files = [self.file("trace", trace), self.file("replies", replies)]
         steps = self.draw.choice(["100", "10000", self.one(NUMBERS)])
         return Case("find-order", [*self.some(["--strict"]), "--steps", steps, *files])
 

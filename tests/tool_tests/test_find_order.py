@@ -236,5 +236,3 @@ def changed(told: str) -> Optional[str]:
     """A text with another second doubleword in its first reply of an H_REMOVE that removed, if there is one."""
     found = re.search(r"H_REMOVE 0 0x[0-9a-f]+ 0x[0-9a-f]+(?= )", told)
     return None if found is None else f"{told[: found.end()]}0{told[found.end() :]}"
-
-

@@ -84,7 +84,6 @@ class Pictures(PictureTest):
         refused = run(DRAW, "6", DATA / "windows.replies")
         self.assert_refused(refused, "entry-history: no receipt of entry 0x6")
 
-
     def test_the_legend_says_what_a_question_mark_is(self) -> None:
         """Where one is drawn."""
         words = "the replies don't tell"

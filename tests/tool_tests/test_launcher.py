@@ -3,7 +3,6 @@
 import gzip
 import os
 import pty
-import re
 import signal
 import subprocess
 import tempfile
@@ -492,4 +491,3 @@ class Program(LauncherTest):
     def test_a_reader_that_stops(self) -> None:
         ran = self.by_shell('"$@" | head -n 1', "run", EXAMPLES / "sharing.trace")
         self.assert_ran(ran, (EXAMPLES / "sharing.replies").read_text().partition("\n")[0] + "\n", err=None)
-

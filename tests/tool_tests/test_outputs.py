@@ -8,9 +8,8 @@ import sys
 import time
 from contextlib import closing
 from dataclasses import dataclass
-from pathlib import Path
 
-from .support import DATA, EXAMPLES, TOOLS, Ran, ToolTest, Word, environment_with, for_each, needs, run, write_script
+from .support import DATA, EXAMPLES, TOOLS, Ran, ToolTest, Word, for_each, needs, run, write_script
 from .test_cuts import SUCCEEDS
 from .test_launcher import FOR_HELP, USAGE, LauncherTest
 
@@ -265,7 +264,8 @@ class Parts(ToolTest):
     @for_each("HUP", "TERM")
     def test_it_is_removed_at_the_signal(self, name: str) -> None:
         (self.folder / "out").write_text("before\n")
-        there = f"with out as text: text.write('x'); assert os.path.exists(part); os.kill(os.getpid(), signal.SIG{name})"
+        killed = f"os.kill(os.getpid(), signal.SIG{name})"
+        there = f"with out as text: text.write('x'); assert os.path.exists(part); {killed}"
         self.assert_ran(self.write(there), status=-signal.Signals[f"SIG{name}"])
         self.assertEqual([path.name for path in self.folder.iterdir()], ["out"])
         self.assertEqual((self.folder / "out").read_text(), "before\n")

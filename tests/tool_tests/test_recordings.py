@@ -15,7 +15,8 @@ from .support import needs_library, needs_program, needs_shared_table, run
 OWN = TOOLS / "qemu-papr"
 JUDGE, BAD_LINE = OWN / "judge-recording", TOOLS / "bad-line"
 THREADS = DATA / "qemu-papr" / "threads"
-RECORDED = DATA / "qemu-papr" / "recorded"  # the first records of parts of two boots; the heads have the entries that occur
+# The first records of parts of two boots; the heads have the entries that occur.
+RECORDED = DATA / "qemu-papr" / "recorded"
 HEADERS = ("qemu/error-report.h", "qemu/thread.h", "qemu/atomic.h", "qemu/timer.h", "cpu.h", "hw/ppc/spapr.h")
 CALL, WALK, MASKS, MARK, PART = range(1, 6)
 H_REMOVE, H_ENTER, H_PROTECT, H_BULK_REMOVE, PREPARE, COMMIT = 0x04, 0x08, 0x18, 0x124, 0x36C, 0x370

@@ -139,7 +139,7 @@ class OneThread(SharedTest):
     @needs("valgrind")
     @for_each("refusals", "alike", "marks", "resize")
     def test_nothing_is_leaked_nor_read_before_it_is_written_in(self, name: str) -> None:
-        """Valgrind stops a thread only between blocks of code, and so hardly ever inside a call: no entry is busy there."""
+        """Valgrind stops a thread only between blocks of code, hardly ever inside a call: no entry is busy there."""
         self.assert_ran(run(*VALGRIND, self.built(name)))
 
 

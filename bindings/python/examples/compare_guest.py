@@ -33,8 +33,8 @@ def text_of(path: Path) -> str:
 # %% [markdown]
 # ## Both replies
 #
-# papr runs the trace. `rows()` gives each reply as a named tuple of numbers and texts, as a database takes it. Here they
-# go into one in memory.
+# papr runs the trace. `rows()` gives each reply as a named tuple of numbers and texts, as a database takes it. Here
+# they go into one in memory.
 
 # %%
 trace = text_of(options.trace)

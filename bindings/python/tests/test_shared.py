@@ -10,6 +10,7 @@ import threading
 import time
 import unittest
 from collections.abc import Callable
+from functools import partial
 from pathlib import Path
 from typing import ClassVar, Optional
 
@@ -321,7 +322,7 @@ class AtABusyEntry(SharedTest):
         shared = SharedTable(table, 3)
         mine, theirs = shared.split(), shared.split()
         protecting = Protecting(theirs, self.library)
-        self.busy(lambda: mine.h_read(0, ENTRY))
+        self.busy(partial(mine.h_read, 0, ENTRY))
         for _ in range(100):
             shared.split().join()
         protecting.end()

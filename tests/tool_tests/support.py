@@ -121,6 +121,8 @@ needs_bytes_library = needs_built(BYTES_LIBRARY, "the program on bytes", "make l
 
 def for_each(*values: object) -> Callable[[Test], Test]:
     """Makes of a test one for each value, which it takes and has at its name's end."""
+    if not values:
+        raise ValueError("a test of no value")
 
     def mark(test: Test) -> Test:
         vars(test)["values_of_test"] = values

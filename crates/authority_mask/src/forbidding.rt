@@ -1,3 +1,4 @@
+//! The check of an access against AMR and IAMR, by the two bits of the page's key in each.
 ghost use Rattle.std.specs.Prelude.{◌≡◌, ◌<◌};
 ghost use Rattle.authority_mask.specs.Authority.{field_of, forbidden, named_if, row_says};
 

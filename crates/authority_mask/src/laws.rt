@@ -1,4 +1,4 @@
-//! Laws of masks. Each function does nothing, and its contract is the law.
+//! Masks of 0 refuse no access. The function does nothing, and its contract is the law.
 
 ghost use Rattle.authority_mask.specs.Authority.{NoMasksRefuseNothing};
 

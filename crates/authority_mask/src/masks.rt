@@ -1,3 +1,4 @@
+//! AMR and IAMR of a processor: in each 32 fields of two bits, one for each key.
 ghost use Rattle.std.specs.Prelude.{◌≡◌};
 ghost use Rattle.authority_mask.specs.Authority.{no_masks, with_mask};
 

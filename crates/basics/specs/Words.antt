@@ -1,5 +1,5 @@
--- Words that contracts of several crates cite: equal truth values, and the first of a table of
--- refusals.
+-- Words that contracts of several crates cite: equal truth values, the first refusal that holds,
+-- and a number that is there.
 use Rattle.std.specs.Prelude.{ℕ, ◌==◌, Bool, true, false, not, List, find, Option, Some, None, option_map}
 
 -- The two truth values are the same.

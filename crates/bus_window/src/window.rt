@@ -1,3 +1,5 @@
+//! A DMA window whose number and range were checked when it was made, and its entry for a bus
+//! address.
 ghost use Rattle.std.specs.Prelude.{◌≡◌, ◌≤◌, ◌<◌, ◌^◌, ◌==◌, Some, IfSome};
 ghost use Rattle.bus_window.specs.Windows.{IsWindow, bus_window, window_of_parts, entry_at};
 
@@ -44,7 +46,7 @@ impl Default for Window {
 }
 
 impl Window {
-    /// The window of this number, with so many pages from this bus address on. `None` exactly where
+    /// The window of this number, with so many pages from this bus address on. `None` exactly if
     /// the number isn't below `2^32`, the address is no multiple of 4,096, there is no page or more
     /// than 16,384, or the last ends above `2^60`.
     pub fn new(liobn: u64, base: u64, pages: u64) -> Option<Window>
@@ -96,7 +98,7 @@ impl Window {
         u64::from(self.liobn) == liobn
     }
 
-    /// The entry of the page that has this bus address. `None` exactly where it lies outside the
+    /// The entry of the page that has this bus address. `None` exactly if it lies outside the
     /// window.
     pub fn entry_at(&self, ioba: u64) -> Option<u32>
         ensures entry { result ≡ entry_at self.now ioba }

@@ -48,7 +48,7 @@ fill_whole items old i all = at (cases_lt (length items) (length old)) where
       rw (i_is, none, gone) refl
 
 -- ---- the same, put one after the other
--- More items are put behind the first ones.
+-- More items are put after the first ones.
 pub placed-append :
     {X : Type 0} (xs ys old : List X) (i : ℕ)
     → placed old i (xs ++ ys) ≡ placed (placed old i xs) (i + length xs) ys
@@ -80,7 +80,7 @@ placed_filled (x ∷ items) [] = placed-none items 1
 placed_filled (x ∷ items) (o ∷ old) =
     placed-shift items old x 0 ∙ ap (λ rest. x ∷ rest) (placed_filled items old)
 
--- Behind the items that are put, the old ones stand.
+-- After the items that are put, the old ones stand.
 pub get_rest :
     {X : Type 0} (items old : List X) (i : ℕ) (d : X)
     → i < length items

@@ -1,4 +1,4 @@
--- Marks: one change behind the other, and what a mark tells.
+-- Marks: one change after the other, and what a mark shows.
 use Rattle.std.specs.Prelude.{◌||◌, not}
 use Rattle.std.proofs.Common.{◌≡◌, ℕ, zero, suc, ◌<◌, ◌⊎◌, inl, inr, List, [], ◌∷◌, length, set, get_or, Bool, true, false, arith, refl, sym, ap, subst, ◌∙◌}
 use Rattle.std.proofs.lemmas.Bool.{cases_Bool}
@@ -36,7 +36,8 @@ no_way_back s t (inl a) (inr b) = absurd (omega (arith, a.stamp, b))
 no_way_back s t (inr a) (inl b) = absurd (omega (arith, a, b.stamp))
 no_way_back s t (inr a) (inr b) = absurd (omega (arith, a, b))
 
--- A state that was left isn't come back to, so one of two changes is told by the last state.
+-- A state that was left isn't come back to, so the last state shows whether one of two changes was
+-- made.
 told_once :
     (s t u : State)
     → Follows s t

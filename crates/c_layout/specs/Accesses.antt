@@ -1,11 +1,11 @@
--- What an access of C asks for.
+-- What an access that C asks for wants, and its page.
 use Rattle.std.specs.Prelude.{ℕ, ◌==◌, if◌then◌else◌, Option, Some, None}
 use Rattle.storage_prot.specs.declared.want.Want.{Want}
 use Rattle.storage_prot.specs.declared.want.Want.TheVariants.{Load, Store, Fetch}
 use Rattle.power_addr.specs.Pages.{VirtualPage, page_of_address}
 use Rattle.c_layout.specs.declared.walking.PaprAccess.{PaprAccess}
 
--- What the number of an access wants.
+-- What an access with this number wants: a load, a store or a fetch.
 abbrev pub want_of : ℕ → Option Want
 want_of want =
     if want == 0 then Some Load

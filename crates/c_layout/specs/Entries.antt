@@ -1,5 +1,5 @@
--- Entries as C has them: each has a state, and a mark that tells whether it was changed since it
--- was last asked.
+-- Entries as C has them: a state, and a mark that shows whether it has changed. The mark is about
+-- changes since it was last taken.
 use Rattle.std.specs.Prelude.{◌≡◌, ◌||◌, not, Bool, true, false, List, [], ◌∷◌, length, map}
 use Rattle.entry_model.specs.State.{State, Follows}
 use Rattle.entry_model.specs.History.{state_eq}
@@ -29,11 +29,11 @@ entries_with (e ∷ es) [] = e ∷ es
 entries_with (e ∷ es) (s ∷ ss) = entry_with e s ∷ entries_with es ss
 
 -- The second entries are the first ones with the states that they hold: an entry is marked exactly
--- where it was, or where its state is another one.
+-- if it was, or if its state is another one.
 abbrev pub AreMarked : List Entry → List Entry → Type 0
 AreMarked old new = new ≡ entries_with old (states_of new)
 
--- ---- one change behind the other
+-- ---- one change after the other
 -- The second entry is the first with a later state, and so marked.
 pub record IsPassed (old new : Entry) : Type 0 where
   pub marked : new ≡ entry_with old new.state

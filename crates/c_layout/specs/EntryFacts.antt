@@ -1,4 +1,4 @@
--- What holds of every entry: the laws of a holder of states.
+-- Two laws of an entry: it holds the state that it was given, and its own state changes nothing.
 use Rattle.std.specs.Prelude.{◌≡◌, ◌||◌, not, Bool, true, false, refl}
 use Rattle.std.proofs.Common.{ap, ◌∙◌}
 use Rattle.entry_model.specs.State.{State}

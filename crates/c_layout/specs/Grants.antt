@@ -8,7 +8,7 @@ use Rattle.c_layout.specs.declared.grants.PaprGrant.{PaprGrant}
 use Rattle.pool_range.specs.Ranges.{address_end}
 
 -- ---- one grant
--- What lies behind it.
+-- What the machine range is of: main storage, or a device's registers.
 abbrev pub kind_of : Bool → Kind
 kind_of is_io = if is_io then Io else Ram
 
@@ -21,7 +21,7 @@ grant_of g = record {
   kind = kind_of g.is_io;
 }
 
--- No byte, at address 0: what stands past the last grant of a list.
+-- No byte, at address 0: what fills a list past its last grant.
 abbrev pub no_fields : PaprGrant
 no_fields = record { logical = 0; machine = 0; length = 0; is_io = false }
 

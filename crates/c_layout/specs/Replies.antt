@@ -1,4 +1,5 @@
--- What a hypervisor call of C answers.
+-- What a hypervisor call answers to C: its code, the slots it fills, and whether a translation may
+-- be stale.
 use Rattle.std.specs.Prelude.{ℕ, false, List, length, min}
 use Rattle.papr_codes.specs.ReturnCodes.{rc_code}
 use Rattle.papr_codes.specs.declared.codes.Rc.TheVariants.{Parameter}
@@ -11,8 +12,8 @@ use Rattle.c_layout.specs.Stale.{any_stale}
 abbrev pub refused_reply : PaprReply
 refused_reply = record { rc = rc_code Parameter; words = 0; receipts = 0; stale = false }
 
--- The code of a reply, how many of the slots it fills, and whether a cached translation may be one
--- no more.
+-- The code of a reply, how many of the slots it fills, and whether a cached translation may no
+-- longer hold.
 abbrev pub reply_told : HReply → List ℕ → List PaprReceipt → PaprReply
 reply_told reply words receipts = record {
   rc = rc_code reply.rc;

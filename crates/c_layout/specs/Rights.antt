@@ -1,4 +1,4 @@
--- What an entry lets an access do, and all that refuses one.
+-- The rights that an entry gives an access, and all causes for which one is refused.
 use Rattle.std.specs.Prelude.{ℕ, ◌+◌, ◌&&◌, ◌||◌, Bool, true, false, not, if◌then◌else◌, Option, Some}
 use Rattle.storage_prot.specs.declared.want.Want.{Want}
 use Rattle.storage_prot.specs.declared.want.Want.TheVariants.{Load, Store, Fetch}

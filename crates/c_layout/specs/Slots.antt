@@ -1,4 +1,4 @@
--- Places that the caller of a call has for what it tells: words and receipts.
+-- How the caller's slots for words and receipts are filled, and a receipt as C has it.
 use Rattle.std.specs.Prelude.{ℕ, ◌+◌, List, [], ◌∷◌, ◌++◌, length, take, drop, set}
 use Rattle.entry_model.specs.State.{bits_number}
 use Rattle.entry_model.specs.Reply.{words_of}
@@ -7,12 +7,12 @@ use Rattle.entry_model.specs.declared.operation.Answer.TheVariants.{Entered, Tak
 use Rattle.entry_model.specs.declared.receipt.Receipt.{Receipt}
 use Rattle.c_layout.specs.declared.receipts.PaprReceipt.{PaprReceipt}
 
--- The first slots have the items, as many as there are slots, and the slots behind them are as
+-- The first slots have the items, as many as there are slots, and the slots after them are as
 -- they were.
 abbrev pub filled : {X : Type 0} → List X → List X → List X
 filled slots items = take (length slots) items ++ drop (length items) slots
 
--- The slots after items were put into them one behind the other from an index on. What has no slot
+-- The slots after items were put into them one after the other from an index on. What has no slot
 -- is left out.
 abbrev pub placed : {X : Type 0} → List X → ℕ → List X → List X
 placed slots index [] = slots

@@ -1,4 +1,4 @@
--- Cached translations that may be ones no more, so that whoever caches them has to drop them.
+-- The answers after which a cached translation may no longer hold, and has to be dropped.
 use Rattle.std.specs.Prelude.{Bool, true, false, List}
 use Rattle.std.specs.List.{list_any}
 use Rattle.entry_model.specs.declared.operation.Answer.{Answer}
@@ -12,6 +12,6 @@ is_stale Protected = true
 is_stale Was = true
 is_stale other = false
 
--- One of the receipts says so.
+-- One of the receipts has such an answer.
 unfoldable pub any_stale : List Receipt → Bool
 any_stale rs = list_any (λ (r : Receipt). is_stale r.answer) rs

@@ -1,4 +1,4 @@
--- Which entries of C are a table.
+-- When the entries that C lends are a whole table.
 use Rattle.std.specs.Prelude.{◌==◌, ◌&&◌, ℕ, Bool, List, length}
 use Rattle.hpte_fields.specs.TableSize.{entry_count, is_table_order}
 use Rattle.entry_model.specs.State.{State}

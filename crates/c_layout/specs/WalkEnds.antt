@@ -1,4 +1,4 @@
--- What a walk tells of the entry that it found.
+-- How a walk ends for C: by the entry that it found, or without one.
 use Rattle.std.specs.Prelude.{ℕ, if◌then◌else◌, Option, Some, None}
 use Rattle.std.specs.Option.{option_map_or}
 use Rattle.storage_prot.specs.declared.want.Want.{Want}
@@ -45,13 +45,13 @@ abbrev pub refused_walk : PaprWalk
 refused_walk = no_entry 3 0
 
 -- ---- by the entry
--- The number of an access that this mask refuses; by none, protection refuses it.
+-- The outcome of an access that this mask refuses; without a mask, protection refuses it.
 abbrev pub refusal_number : Option MaskName → ℕ
 refusal_number None = 1
 refusal_number (Some Amr) = 4
 refusal_number (Some Iamr) = 5
 
--- The sizes that an entry's doublewords encode, or 0.
+-- The base page shift that an entry's doublewords encode, or 0.
 abbrev pub base_shift_of : State → ℕ
 base_shift_of s = option_map_or (λ (size : PageSize). size.base) (size_of s.dword0 s.dword1) 0
 

@@ -1,3 +1,5 @@
+//! A page table entry in the memory of C: its state, the mark that each change of it sets, and the
+//! laws of marks.
 ghost use Rattle.std.specs.Prelude.{◌≡◌};
 ghost use Rattle.entry_model.specs.History.{state_eq};
 ghost use Rattle.c_layout.specs.Entries.{HoldWhatTheyAreGiven, ChangesAreMarked, MarksStay, UnmarkedAreUnchanged};
@@ -6,8 +8,8 @@ use entry_model::EntryState;
 use hpt_resize::StateHolder;
 use std::marker::Model;
 
-/// One page table entry as C has it, in 24 bytes: its state, and a mark that tells whether it was
-/// changed since the mark was last taken. All zero is an empty one that isn't marked.
+/// One page table entry as C has it, in 24 bytes: its state, and a mark that shows whether the
+/// state has changed since the mark was last taken. All zero is an empty one that isn't marked.
 #[repr(C)]
 #[derive(Clone, Copy)]
 pub struct PaprEntry {
@@ -15,7 +17,7 @@ pub struct PaprEntry {
     pub dword0: u64,
     /// Doubleword 1, with R and C clear.
     pub dword1: u64,
-    /// How often the entry has changed, but for R and C that accesses set.
+    /// How often the entry has changed, except for R and C that accesses set.
     pub stamp: u32,
     /// V: the entry translates a page.
     pub valid: bool,
@@ -60,7 +62,7 @@ impl Model for PaprEntry {
         } };
 }
 
-/// Whether both states are one.
+/// Whether both states are the same.
 #[inline]
 #[tactic(auto, unfolding(entry_model::specs::History::state_eq))]
 fn is_same(first: &EntryState, second: &EntryState) -> bool

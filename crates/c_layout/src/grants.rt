@@ -1,3 +1,5 @@
+//! Grants in the memory of C: one range with its machine range, and the sorted list of them, which
+//! is searched by halving.
 ghost use Rattle.std.specs.Prelude.{◌≡◌, ◌≤◌, ◌<◌, ℕ, length};
 ghost use Rattle.frame_grants.specs.Grants.{holds, most_grants};
 ghost use Rattle.c_layout.specs.Grants.{kind_of, grant_of, fields_at, listed, IsInOrder, AreListed};
@@ -5,7 +7,7 @@ ghost use Rattle.c_layout.specs.Grants.{kind_of, grant_of, fields_at, listed, Is
 use frame_grants::{Grant, Kind, MOST_GRANTS};
 use page_grants::GrantedMemory;
 
-/// A range of the guest's logical addresses and the machine range behind it, in bytes.
+/// A range of the guest's logical addresses and the machine range that it is mapped to, in bytes.
 #[repr(C)]
 #[derive(Clone, Copy)]
 pub struct PaprGrant {
@@ -15,7 +17,7 @@ pub struct PaprGrant {
     pub machine: u64,
     /// The length of both ranges.
     pub length: u64,
-    /// Whether a device's registers lie behind the range, in place of main storage.
+    /// Whether the machine range is of a device's registers, and not of main storage.
     pub is_io: bool,
 }
 
@@ -40,7 +42,7 @@ impl PaprGrant {
         }
     }
 
-    /// What lies behind it.
+    /// What the machine range is of: main storage, or a device's registers.
     fn kind(&self) -> Kind
         ensures { result ≡ kind_of self.now.is_io }
     {

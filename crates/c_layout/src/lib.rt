@@ -1,5 +1,8 @@
 //! What C and papr's libraries hand each other: receipts, replies, grants, accesses and what a walk
-//! finds, as `repr(C)` structs, and what each of them tells.
+//! finds, as `repr(C)` structs, and what each of them says.
+//!
+//! Main contracts: `put_receipts`, `hand_over`, `PaprWalk::end`, `PaprGrants::machine_of`: each is
+//! its definition.
 #![tactic(auto)]
 
 mod entry;

@@ -1,3 +1,5 @@
+//! Receipts as C sees them, with the numbers of their answers, and how they are put into the
+//! caller's slots.
 ghost use Rattle.std.specs.Prelude.{◌≡◌, ◌≤◌, length, map, min, set};
 ghost use Rattle.c_layout.specs.Slots.{filled, answer_number, shown_receipt};
 ghost use Rattle.entry_model.specs.State.{bits_number};

@@ -1,3 +1,5 @@
+//! The answer of a hypervisor call for C, and how the words of its registers are put into the
+//! caller's slots.
 ghost use Rattle.std.specs.Prelude.{◌≡◌, ◌≤◌, length, min, set};
 ghost use Rattle.papr_codes.specs.ReturnCodes.{rc_code};
 ghost use Rattle.c_layout.specs.Slots.{filled};
@@ -18,7 +20,7 @@ pub struct PaprReply {
     pub words: u32,
     /// How many receipts were written.
     pub receipts: u32,
-    /// Whether a cached translation may be one no more: an entry was removed or protected, or its R
+    /// Whether a cached translation may no longer hold: an entry was removed or protected, or its R
     /// or C was cleared. It doesn't matter how many receipts were written.
     pub stale: bool,
 }
@@ -36,8 +38,8 @@ impl PaprReply {
         }
     }
 
-    /// A code, how many of the caller's slots are filled, and whether a cached translation may be
-    /// one no more.
+    /// A code, how many of the caller's slots are filled, and whether a cached translation may no
+    /// longer hold.
     #[inline]
     pub fn answered(rc: Rc, words: u32, receipts: u32, stale: bool) -> PaprReply
         ensures { result

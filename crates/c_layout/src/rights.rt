@@ -1,3 +1,5 @@
+//! The bits for what a processor may do through an entry without a further walk, and for the causes
+//! of a refused access.
 ghost use Rattle.std.specs.Prelude.{◌≡◌, ◌||◌};
 ghost use Rattle.hpte_fields.specs.Fields.{is_no_execute};
 ghost use Rattle.c_layout.specs.Rights as spec;

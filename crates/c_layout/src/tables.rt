@@ -1,3 +1,4 @@
+//! The check that lent entries are a whole table: as many as its order says.
 ghost use Rattle.std.specs.Prelude.{◌≡◌};
 ghost use Rattle.c_layout.specs.Entries.{states_of};
 ghost use Rattle.c_layout.specs.Tables.{is_table};

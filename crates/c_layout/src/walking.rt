@@ -1,3 +1,5 @@
+//! An access as C asks for it, and the end of its walk: words, sizes and rights of the entry that
+//! was found, or why there is no translation.
 ghost use Rattle.std.specs.Prelude.{◌≡◌};
 ghost use Rattle.c_layout.specs.WalkEnds.{masks_of, no_entry, refused_walk, refusal_number, end_at};
 ghost use Rattle.c_layout.specs.Accesses.{want_of};
@@ -53,7 +55,7 @@ pub struct PaprAccess {
 }
 
 /// What a walk found: all that a processor keeps of a translation, or why there is none. What isn't
-/// told is 0.
+/// known is 0.
 #[repr(C)]
 #[derive(Clone, Copy)]
 pub struct PaprWalk {
@@ -108,7 +110,7 @@ pub fn want_of(want: u8) -> Option<Want>
     }
 }
 
-/// The number of an access that this mask refuses; by none, protection refuses it.
+/// The outcome of an access that this mask refuses; without a mask, protection refuses it.
 fn refusal(mask: Option<MaskName>) -> u32
     ensures { result ≡ refusal_number mask }
 {

@@ -1,4 +1,4 @@
--- One step of H_BULK_REMOVE: a pair, with what completes the pairs behind it.
+-- One step of H_BULK_REMOVE: a pair, with what completes the pairs after it.
 use Rattle.std.proofs.Common.{◌≡◌, ℕ, ◌+◌, ◌-◌, ◌*◌, ◌%◌, ◌^◌, ◌<◌, ◌≤◌, ◌==◌, List, [], ◌∷◌, ◌++◌, true, false, Option, Some, None, ◌⊎◌, inl, inr, nat_lt, arith, ap, sym, ◌∙◌, refl, subst, length, length-drop, take, drop, get_or, append_assoc, append-nil}
 use Rattle.std.proofs.lemmas.Bool.{cases_Bool, ltb-true}
 use Rattle.std.proofs.lemmas.List.{drop_more, drop_all, take_rest}
@@ -30,7 +30,7 @@ calls_of order words = bulk_calls order (pairs_of words)
 abbrev pub told_of : ℕ → List ℕ → List Receipt → Rc × List ℕ
 told_of order words rs = bulk_told order (pairs_of words) rs
 
--- Words put before those of the pairs behind.
+-- Words put before those of the pairs that follow.
 abbrev pub after_words : List ℕ → Rc × List ℕ → Rc × List ℕ
 after_words words rest = (rest.0, words ++ rest.1)
 
@@ -39,7 +39,7 @@ after_words words rest = (rest.0, words ++ rest.1)
 abbrev pub words_from : ℕ → List ℕ → List ℕ
 words_from i words = drop (2 * i) words
 
--- The first pair, and the pairs behind it.
+-- The first pair, and the pairs after it.
 pub first_pair :
     (i : ℕ) (words : List ℕ)
     → length words ≡ 8
@@ -53,7 +53,7 @@ first_pair i words eight h =
     (drop_more words (2 * i + 1) 0 (omega arith)
     ∙ ap (λ n. get_or words (2 * i + 1) 0 ∷ drop n words) next)
 
--- The words behind the first one.
+-- The words after the first one.
 pub second_word_on :
     (i : ℕ) (words : List ℕ)
     → length words ≡ 8
@@ -251,7 +251,7 @@ ends_at_end order i pairs words receipts eight h asks so_far =
     (closes order i pairs words receipts _ _ [] rc.Success so_far first
     (end_trial order _ _ _ (sym asks)) (end_told order _ _ _ [] (sym asks)))
 
--- A response, and the words that stay behind it.
+-- A response, and the words after it, which stay.
 pub response_and_rest :
     (i answer : ℕ) (pairs words : List ℕ)
     → length pairs ≡ 8

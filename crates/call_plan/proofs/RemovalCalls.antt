@@ -59,7 +59,7 @@ drop_pairs (a ∷ b ∷ words) (suc i) =
     let two : 2 * suc i ≡ suc (suc (2 * i)) = omega arith in
     drop_pairs words i ∙ ap (λ n. pairs_of (drop n (a ∷ b ∷ words))) (sym two)
 
--- The call behind the first ones is the one that its pair asks for.
+-- The call after the first ones is the one that its pair asks for.
 pub removals_at :
     (order : ℕ) (words : List ℕ) (i : ℕ)
     → length words ≡ 8

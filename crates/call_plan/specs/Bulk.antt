@@ -120,7 +120,7 @@ unfoldable pub bulk_calls : ℕ → List Pair → List Call
 bulk_calls order [] = []
 bulk_calls order (p ∷ ps) = calls_before (asked_by order p) (bulk_calls order ps)
 
--- Words put before those of the pairs behind.
+-- Words put before those of the pairs that follow.
 abbrev pub words_before : ℕ → ℕ → Rc × List ℕ → Rc × List ℕ
 words_before request word rest = (rest.0, request ∷ word ∷ rest.1)
 
@@ -131,7 +131,7 @@ words_after_answer p r ps rest =
     then (rc.Hardware, response worn_status p.request ∷ p.word ∷ words_of_pairs ps)
     else words_before (response (status_of r.answer r.before) p.request) p.word rest
 
--- One pair, with the receipts of it and of the pairs behind.
+-- One pair, with the receipts of it and of the pairs that follow.
 abbrev pub pair_told :
     Asked → Pair → List Pair → List Receipt → (List Receipt → Rc × List ℕ) → Rc × List ℕ
 pair_told End p ps rs rest = (rc.Success, words_of_pairs (p ∷ ps))

@@ -1,4 +1,4 @@
--- The checks of H_ENTER.
+-- H_ENTER with its checks: of the index, of the doublewords, and of the grant that holds the page.
 use Rattle.std.specs.Prelude.{ℕ, List, Option, Some, None, if◌then◌else◌, nat_lt}
 use Rattle.hpte_fields.specs.TableSize.{entry_count}
 use Rattle.papr_codes.specs.declared.codes.Rc.TheVariants.{Parameter}

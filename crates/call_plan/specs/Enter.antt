@@ -17,8 +17,8 @@ candidates flags ptex =
     then range_with_len ptex 1
     else range_with_len (ptex / group_size * group_size) group_size
 
--- What H_ENTER tells by the receipt of the entry that wasn't taken: Entered gives H_SUCCESS and the
--- index, Worn gives H_HARDWARE. With no such receipt the group is full.
+-- The reply of H_ENTER by the receipt of the entry that wasn't taken: Entered gives H_SUCCESS and
+-- the index, Worn gives H_HARDWARE. With no such receipt the group is full.
 abbrev pub told_by_ending : Option Receipt → Rc × List ℕ
 told_by_ending None = (PtegFull, [])
 told_by_ending (Some r) = if is_worn r.answer then (Hardware, []) else (Success, r.entry ∷ [])

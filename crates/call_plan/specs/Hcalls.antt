@@ -1,4 +1,4 @@
--- The hypervisor calls on entries by their numbers.
+-- Which plan each hypervisor call on entries has, by its words.
 use Rattle.std.specs.Prelude.{ℕ, List, slice_index, Option, Some, None}
 use Rattle.papr_codes.specs.declared.calls.Hcall.{Hcall}
 use Rattle.papr_codes.specs.declared.calls.Hcall.TheVariants.{Remove, Enter, Read, ClearMod, ClearRef, Protect, BulkRemove}

@@ -1,4 +1,4 @@
--- The plan that a value of the code stands for.
+-- The plan that a `CallPlan` of the code stands for, and when it fits a table of an order.
 use Rattle.std.specs.Prelude.{◌≡◌, ℕ, ◌+◌, ◌≤◌, Bool, true, List, map, flat_map}
 use Rattle.std.specs.List.{range_with_len}
 use Rattle.hpte_fields.specs.TableSize.{entry_count}
@@ -51,7 +51,7 @@ most_of Entered = 8
 most_of (Answer shown) = 1
 most_of Contents = 4
 
--- The doublewords of each entry are told where entries are read.
+-- The doublewords of each entry are returned where entries are read.
 abbrev pub IsToldOf : Told → Op → Type 0
 IsToldOf Contents op = op ≡ Read
 IsToldOf other op = Unit {0}

@@ -1,5 +1,5 @@
--- The hypervisor calls on one entry, or on four that are read together: what each asks of the
--- entry, and the reply that the answer gives.
+-- The hypervisor calls on one entry, or on four that are read together: their plans and their
+-- replies.
 use Rattle.hpte_fields.specs.TableSize.{entry_count}
 use Rattle.std.specs.Prelude.{ℕ, ◌*◌, ◌/◌, List, [], ◌∷◌, true, Option, Some, None, if◌then◌else◌, nat_lt, map, flat_map}
 use Rattle.std.specs.List.{range_with_len}
@@ -48,7 +48,7 @@ code_and_words NotFound words = (rc.NotFound, [])
 code_and_words Worn words = (rc.Hardware, [])
 code_and_words other words = (rc.Success, words)
 
--- What a call on one entry tells by its one receipt.
+-- The reply of a call on one entry, by its one receipt.
 abbrev pub told_by : (Receipt → List ℕ) → List Receipt → Rc × List ℕ
 told_by words [] = (rc.Parameter, [])
 told_by words (r ∷ rs) = code_and_words r.answer (words r)

@@ -1,3 +1,5 @@
+//! The words of H_BULK_REMOVE (LoPAR): what a pair asks for, and the response that replaces its
+//! first word.
 ghost use Rattle.hpte_fields.specs.TableSize.{IsTableOrder};
 ghost use Rattle.std.specs.Prelude.{◌≡◌, ◌≤◌, ◌+◌, ◌%◌, ◌++◌, length, if◌then◌else◌};
 ghost use Rattle.entry_model.specs.Receipt.{is_worn};
@@ -149,7 +151,7 @@ pub fn ill_formed(request: u64) -> u64
     response(ILL_FORMED, request)
 }
 
-/// The code, and the words with those behind them that stay as they were.
+/// The code, and the words, followed by those that stay as they were.
 fn ended(rc: Rc, mut words: ReplyWords, unchanged: &[u64]) -> Registers
     requires { length words + length unchanged.now ≤ 8 }
     ensures { result ≡ record { rc = rc; words = words ++ unchanged.now } }
@@ -160,8 +162,8 @@ fn ended(rc: Rc, mut words: ReplyWords, unchanged: &[u64]) -> Registers
     Registers { rc, words }
 }
 
-/// What the receipts of a bulk removal tell: the code, and all eight words, with a response in
-/// place of each request that was taken up.
+/// The reply of a bulk removal with these receipts: the code, and all eight words, in which a
+/// response replaces each request that was taken up.
 #[inline(always)]
 pub fn removal_registers(order: u8, pairs: &[u64; 8], receipts: &[Receipt]) -> Registers
     requires order { IsTableOrder order }

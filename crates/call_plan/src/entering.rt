@@ -1,3 +1,5 @@
+//! H_ENTER as a plan: its checks of the index, the doublewords and the grants, and then the entries
+//! that it tries.
 ghost use Rattle.std.specs.Prelude.{◌≡◌, ◌≤◌, ◌<◌, ◌+◌, ℕ, Some};
 ghost use Rattle.std.specs.List.{range_with_len};
 ghost use Rattle.hpte_fields.specs.TableSize.{IsTableOrder, entry_count, least_order};

@@ -3,6 +3,9 @@
 //!
 //! Each call of LoPAR on page table entries has a function that gives its [`CallPlan`], and
 //! [`run_plan`] makes any of these on any store of entries.
+//!
+//! Main contracts: `plan_of_hcall`, and `enter_plan` to `bulk_remove_plan`: the value is the
+//! definition's plan, and fits a table of this order; `run_plan`: the reply is the plan's.
 #![tactic(auto)]
 
 mod bulk;

@@ -1,3 +1,4 @@
+//! Which plan each hypervisor call has, and which of registers 4 to 11 are its arguments.
 ghost use Rattle.std.specs.Prelude.{◌≡◌};
 ghost use Rattle.hpte_fields.specs.TableSize.{IsTableOrder};
 ghost use Rattle.call_plan.specs.Hcalls.{entries_plan};

@@ -1,3 +1,5 @@
+//! The types of a plan: a return code alone, one operation on consecutive entries, or the removals
+//! of H_BULK_REMOVE.
 ghost use Rattle.std.specs.Prelude.{◌+◌, ◌<◌, ◌^◌};
 
 use crate::shown::ShownWords;
@@ -16,7 +18,7 @@ pub enum Told {
     Contents,
 }
 
-/// One operation on entries that stand one behind the other.
+/// One operation on consecutive entries.
 #[derive(Clone, Copy)]
 pub struct Trial {
     /// What is made on each of them.

@@ -1,3 +1,4 @@
+//! H_READ as a plan: of the named entry, or under H_READ_4 of the aligned four that it is among.
 ghost use Rattle.std.specs.Prelude.{◌≡◌, ◌≤◌, ◌<◌, ◌+◌, ℕ};
 ghost use Rattle.std.specs.List.{range_with_len};
 ghost use Rattle.hpte_fields.specs.TableSize as table;

@@ -1,3 +1,5 @@
+//! H_BULK_REMOVE as a plan: its pairs as a list of removals, up to the first that asks for none or
+//! whose entry is at its last stamp.
 ghost use Rattle.std.specs.Prelude.{◌≡◌, length};
 ghost use Rattle.hpte_fields.specs.TableSize.{IsTableOrder};
 ghost use Rattle.call_plan.specs.Bulk.{h_bulk_remove_plan};

@@ -1,3 +1,5 @@
+//! How a plan is run on any store of entries: its operations, and then the registers of the reply
+//! from their receipts.
 ghost use Rattle.entry_model.specs.Replies.{reply_with};
 ghost use Rattle.entry_model.specs.Trial.{IsReplyOf};
 ghost use Rattle.call_plan.specs.Bulk.{h_bulk_remove_plan};
@@ -37,7 +39,7 @@ fn run_removals<T: EntryStore>(
     removal_registers(order, pairs, receipts.as_slice())
 }
 
-/// Makes a call on the entries of a store, with its receipts in place of what is in `receipts`.
+/// Makes a call on the entries of a store. Its receipts replace what is in `receipts`.
 pub fn run_plan<T: EntryStore>(store: &mut T, plan: &CallPlan, receipts: &mut Receipts) -> Registers
     requires { Fits (T.table_order store.old) plan.now }
     ensures made { T.made store.old store.new receipts.new }

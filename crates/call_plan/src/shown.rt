@@ -1,3 +1,5 @@
+//! Which doublewords of an entry a call returns: none by H_PROTECT, the second by H_CLEAR_REF and
+//! H_CLEAR_MOD, both by H_REMOVE.
 ghost use Rattle.std.specs.Prelude.{◌≡◌};
 ghost use Rattle.call_plan.specs.ShownWords.{words_shown};
 

@@ -1,3 +1,4 @@
+//! The plans of the calls that change one entry: H_REMOVE, H_PROTECT, H_CLEAR_REF and H_CLEAR_MOD.
 ghost use Rattle.std.specs.Prelude.{◌≡◌};
 ghost use Rattle.hpte_fields.specs.TableSize.{IsTableOrder};
 ghost use Rattle.entry_model.specs.Receipt.{IsNormal};

@@ -1,3 +1,4 @@
+//! The return code and the words of a reply, from the receipts of a plan's operations.
 ghost use Rattle.std.specs.Prelude.{◌≡◌, ◌≤◌, length, flat_map};
 ghost use Rattle.entry_model.specs.Trial.{ending_of};
 ghost use Rattle.call_plan.specs.Enter.{told_by_ending};

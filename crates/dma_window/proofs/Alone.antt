@@ -32,7 +32,7 @@ emptied_by true true s next v none on = cc
 emptied_by true false s next v none on = none
 emptied_by false last s next v none on = v
 
--- After a removal that not_worn on the entry is empty.
+-- After a removal that isn't answered Worn the entry is empty.
 emptied :
     (s : State)
     → not_worn (reply_of s (ops.Remove no_test)).0 ≡ true

@@ -1,4 +1,4 @@
--- The calls of a plan on a window, and what the last of their receipts tells.
+-- The calls of a plan on a window, and the code that the last of their receipts gives.
 use Rattle.std.proofs.Common.{◌≡◌, ℕ, zero, suc, ◌-◌, ◌^◌, ◌<◌, ◌≤◌, List, [], ◌∷◌, length, get_or, refl, arith}
 use Rattle.std.proofs.Math.Pow.{pow_mono}
 use Rattle.hpte_fields.specs.TableSize.{entry_count, least_order}

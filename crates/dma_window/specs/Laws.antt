@@ -1,4 +1,5 @@
--- What is proved of windows.
+-- What is proved of DMA windows: when H_PUT_TCE is busy, what its entry keeps, and where accesses
+-- end.
 use Rattle.std.specs.Prelude.{◌≡◌, ◌≢◌, ℕ, ◌↔◌, ◌⊎◌, Bool, true, false, IsTrue, List, [], ◌∷◌, Some}
 use Rattle.std.specs.List.{AllByRecursion}
 use Rattle.bus_window.specs.Windows.{BusWindow}
@@ -26,7 +27,7 @@ abbrev pub HasTaken : List Receipt → Type 0
 HasTaken [] = ⊥
 HasTaken (r ∷ rs) = (r.answer ≡ Taken) ⊎ HasTaken rs
 
--- H_BUSY comes exactly where this call's entering has a receipt that says Taken.
+-- H_BUSY comes exactly if this call's entering has a receipt that says Taken.
 abbrev pub BusyExactlyWhereTaken : Type 0
 BusyExactlyWhereTaken =
     (grants : List Grant) (window : BusWindow) (ioba tce : ℕ) (reply : HReply)
@@ -66,8 +67,8 @@ KeptWordsAreReadBack =
     (tce : ℕ) → IsKept tce (tce_of (entered_state (first_word tce) (second_word tce)))
 
 -- ---- a device's access
--- An access that is permitted ends outside the grants exactly where no single grant of ram holds
--- its page.
+-- An access that is permitted ends outside the grants exactly if no single grant of ram holds its
+-- page.
 abbrev pub UngrantedExactlyWhere : Type 0
 UngrantedExactlyWhere =
     (grants : List Grant) (ioba tce : ℕ) (write : Bool)
@@ -83,7 +84,7 @@ pub record Lands (grants : List Grant) (ioba : ℕ) (write : Bool) (tce address 
   pub landing :
       (kind : Kind) × (machine_range grants (logical_of ioba tce) 1 ≡ Some (address, kind))
 
--- An access ends at a machine address exactly where it lands there.
+-- An access ends at a machine address exactly if it lands there.
 abbrev pub PermittedAccessesLand : Type 0
 PermittedAccessesLand =
     (grants : List Grant) (ioba tce address : ℕ) (write : Bool)

@@ -1,4 +1,4 @@
--- The pages of memory that a device may be given.
+-- The pages that a TCE may give to a device: those that a single grant of ram holds.
 use Rattle.std.specs.Prelude.{ℕ, Bool, true, false, List}
 use Rattle.std.specs.Option.{option_map_or}
 use Rattle.pool_range.specs.Ranges.{page_bytes}

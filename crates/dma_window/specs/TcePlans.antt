@@ -1,4 +1,4 @@
--- The plan that a value of the code stands for.
+-- Which plan each value of the code's type `TcePlan` means, and which of them fit a window.
 use Rattle.std.specs.Prelude.{ℕ, ◌<◌, ◌^◌}
 use Rattle.entry_model.specs.Receipt.{IsNormal}
 use Rattle.entry_model.specs.Trial.{Plan, plan_of_code}

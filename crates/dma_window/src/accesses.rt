@@ -1,3 +1,5 @@
+//! A device's access to memory: one read of its page's entry gives the TCE, and the TCE and the
+//! grants decide where the access ends.
 ghost use Rattle.std.specs.Prelude.{◌≡◌, ◌%◌, ◌<◌};
 ghost use Rattle.entry_model.specs.Replies.{device_reply_with};
 ghost use Rattle.dma_window.specs.Devices as devices;
@@ -28,7 +30,7 @@ pub fn outcome_by<G: GrantedMemory>(grants: &G, tce: u64, ioba: u64, write: bool
     }
 }
 
-/// [`device`] with its receipt put into `receipts`, in place of what was there.
+/// [`device`] with its receipt put into `receipts`, which are cleared first.
 // Out of line: docs/PERFORMANCE.md says why.
 #[inline(never)]
 pub fn device_into<T: EntryStore>(

@@ -2,7 +2,7 @@
 
 ghost use Rattle.dma_window.specs.Laws.{BusyExactlyWhereTaken, NeverBusyAlone, TcesHavePages, KeptWordsAreReadBack, UngrantedExactlyWhere, PermittedAccessesLand};
 
-/// H_PUT_TCE answers H_BUSY exactly where its entering has a receipt that says Taken.
+/// H_PUT_TCE answers H_BUSY exactly if its entering has a receipt that says Taken.
 pub fn busy_exactly_where_taken()
     ensures { BusyExactlyWhereTaken }
 {}
@@ -23,13 +23,13 @@ pub fn kept_words_are_read_back()
     ensures { KeptWordsAreReadBack }
 {}
 
-/// A device's access that is permitted ends outside the grants exactly where no single grant of ram
+/// A device's access that is permitted ends outside the grants exactly if no single grant of ram
 /// holds the page of its TCE.
 pub fn ungranted_exactly_where()
     ensures { UngrantedExactlyWhere }
 {}
 
-/// A device's access ends at a machine address exactly where its TCE permits it, one grant of ram
+/// A device's access ends at a machine address exactly if its TCE permits it, one grant of ram
 /// holds the TCE's page, and the grants have the access's logical address there.
 pub fn permitted_accesses_land()
     ensures { PermittedAccessesLand }

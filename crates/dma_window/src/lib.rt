@@ -2,8 +2,11 @@
 //! sets.
 //!
 //! LoPAR, H_PUT_TCE and H_GET_TCE. A window's entries are kept in a store of page table entries, so
-//! they have stamps, receipts and histories as those have. Each call is a
-//! plan: which operations it makes, and what their receipts tell.
+//! they have stamps, receipts and histories as those have. Each call is a plan: which operations it
+//! makes, and which reply their receipts give.
+//!
+//! Main contracts: `put_tce`, `get_tce`, `device`: each reply is the one of its receipts, over any
+//! store; H_BUSY exactly if its Enter found the entry taken.
 #![tactic(auto)]
 
 mod accesses;

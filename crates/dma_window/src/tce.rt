@@ -1,3 +1,5 @@
+//! TCEs as words: address, permissions and the grant of the page, and the doublewords of the page
+//! table entry that keeps a TCE.
 ghost use Rattle.std.specs.Prelude.{◌≡◌, ◌+◌};
 ghost use Rattle.entry_model.specs.Receipt.{IsNormal};
 ghost use Rattle.entry_model.specs.Reply.{no_test};

@@ -1,3 +1,5 @@
+//! How H_PUT_TCE and H_GET_TCE are run: the operations of the plan on the store, and the return
+//! code and words that their receipts give.
 ghost use Rattle.std.specs.Prelude.{◌≡◌, ◌<◌, length};
 ghost use Rattle.entry_model.specs.Replies.{reply_with};
 ghost use Rattle.entry_model.specs.Trial.{IsReplyOf, IsTrial};
@@ -32,7 +34,7 @@ fn code_by_last(receipts: &[Receipt]) -> Rc
     code_of(receipts[receipts.len() - 1].answer)
 }
 
-/// What the receipts of a call on TCEs tell.
+/// The return code and the words of a call on TCEs, by its receipts.
 fn tce_registers(plan: &TcePlan, receipts: &[Receipt]) -> Registers
     requires { IsTrial (plan_of plan.now).goes_on (plan_of plan.now).calls receipts.now }
     ensures { (result.rc, result.words) ≡ (plan_of plan.now).told receipts.now }
@@ -52,7 +54,7 @@ fn tce_registers(plan: &TcePlan, receipts: &[Receipt]) -> Registers
     }
 }
 
-/// Makes a call on the TCEs of a window, with its receipts in place of what is in `receipts`.
+/// Makes a call on the TCEs of a window. Its receipts replace those that are in `receipts`.
 #[inline(always)]
 pub fn run_tce_plan<T: EntryStore>(
     store: &mut T,

@@ -1,3 +1,5 @@
+//! Which operations H_PUT_TCE and H_GET_TCE make, decided by the arguments, the window and the
+//! grants before any entry is touched.
 ghost use Rattle.std.specs.Prelude.{◌≡◌};
 ghost use Rattle.dma_window.specs.Calls as calls;
 ghost use Rattle.dma_window.specs.TcePlans.{plan_of, FitsWindow};

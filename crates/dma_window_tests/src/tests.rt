@@ -1,3 +1,5 @@
+//! H_PUT_TCE, H_GET_TCE and a device's accesses on a window of two pages, over a plain table and
+//! beside a grant of ram and one of io.
 use bus_window::Window;
 use dma_window::*;
 use entry_model::{Answer, DeviceOutcome, DeviceReply, EntryState, EntryStore, HReply};
@@ -23,7 +25,7 @@ fn empty_entries(alloc: Global) -> Result<PlainTable, AllocError> {
     Ok(PlainTable::open(states, ORDER))
 }
 
-/// 64 KB of ram, and a page of io behind them.
+/// 64 KB of ram, and a page of io after them.
 fn granted() -> Grants {
     let mut grants = Grants::new(0x10_0000_0000, 24);
     let _ram = grants.add(Grant {

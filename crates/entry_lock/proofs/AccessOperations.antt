@@ -286,7 +286,7 @@ module _ (key : Opening) (s : TableState ℕ View) (steps : List (ℕ × Step))
       wanted_is : word_of d.noted ≡ wanted
       wanted_is = ap word_of al.noted
 
-      -- The word found is the noted one exactly where the controls are the same.
+      -- The word found is the noted one exactly if the controls are the same.
       same_if : found ≡ wanted → X.control ≡ d.noted
       same_if hit =
           same_word found X.control d.noted (show.control, low)

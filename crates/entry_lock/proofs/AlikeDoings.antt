@@ -1,4 +1,4 @@
--- Two operations that are told of the same words.
+-- Two operations that know the same words.
 use Rattle.std.specs.Prelude.{is_some, if◌then◌else◌, unwrap_or}
 use Rattle.std.proofs.Common.{◌≡◌, ◌==◌, ◌&&◌, ◌||◌, not, true, false, refl, ap, ◌∙◌, eq-eqb}
 use Rattle.entry_model.specs.Reply.{reply_of}

@@ -60,8 +60,8 @@ pub total_more :
 total_more f [] v = omega arith
 total_more f (x ∷ xs) v = let h = total_more f xs v in omega arith
 
--- ---- how often a number stands in a list
--- How often k stands in a list that has n alone.
+-- ---- how often a number is in a list
+-- How often k is in a list that has n alone.
 abbrev pub one : ℕ → ℕ → ℕ
 one k n = if n == k then 1 else 0
 

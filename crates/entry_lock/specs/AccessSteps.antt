@@ -1,5 +1,5 @@
--- What each step of an access tells its pass: the view v before, the word found, the view w after.
--- Each is one step of the machine.
+-- What each step of an access leaves of its pass's view, by the word that it found. The view is v
+-- before the step and w after it. Each is one step of the machine.
 use Rattle.std.specs.Prelude.{◌≡◌, ◌≢◌, ℕ, ◌||◌, Bool, true, false, length, Option, unwrap_or}
 use Rattle.entry_model.specs.declared.operation.Op.{Op}
 use Rattle.entry_model.specs.Fronts.{IsAhead}

@@ -1,4 +1,4 @@
--- Why an entry was busy.
+-- Why a try found its entry busy, by the control words that it noted and found.
 use Rattle.std.specs.Prelude.{◌≡◌, ◌≢◌, ◌⊎◌, true, false}
 use Rattle.entry_model.specs.declared.line.Line.{Line}
 use Rattle.entry_lock.specs.declared.busy.Busy.{Busy}
@@ -15,7 +15,8 @@ abbrev pub IsChanging : Busy → Type 0
 IsChanging b =
     (shut_bit b.looked ≡ true) ⊎ ((shut_bit b.found ≡ true) ⊎ (b.looked ≢ b.found))
 
--- An access by a cached line: the mark found another word, though the entry is at the line's stamp.
+-- An access by a cached translation: the mark found another word, though the entry is at the line's
+-- stamp.
 pub record IsMissedMark (b : Busy) (cached : Line) : Type 0 where
   pub differ : b.looked ≢ b.found
   pub still : is_gone_from (control_of_word b.found) cached.stamp ≡ false

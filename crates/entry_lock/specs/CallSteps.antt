@@ -51,7 +51,7 @@ deciding_step e op r = if leaves_state r then Look e op else Mark
 abbrev pub access_steps : ℕ → Op → Receipt → List Step
 access_steps e op r = Look e op ∷ loads_if r.before.valid ++ deciding_step e op r ∷ []
 
--- An access by a cached line that made this receipt. It loads no data word.
+-- An access by a cached translation that made this receipt. It loads no data word.
 abbrev pub line_steps : ℕ → Op → Receipt → List Step
 line_steps e op r = Look e op ∷ deciding_step e op r ∷ []
 

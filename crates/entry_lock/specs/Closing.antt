@@ -1,4 +1,5 @@
--- What the closing of a table tells.
+-- What holds when a table closes: a run of the machine made the pass's receipts and left the
+-- closing states.
 use Rattle.std.specs.Prelude.{◌≡◌, ℕ, ◌<◌, List, length}
 use Rattle.entry_model.specs.State.{State}
 use Rattle.entry_model.specs.declared.line.Line.{Line}

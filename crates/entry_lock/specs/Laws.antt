@@ -1,7 +1,7 @@
--- The laws of the table. Between any two atomic operations the kit's table keeps the rule, that
--- words and views show the machine after some steps, of which each pass knows its own. These say
--- how the list of steps begins, and that each step that the machine allows can be taken by one
--- operation; `SingleSteps` says that each operation is one step.
+-- The laws of the running table: its words and views always show the machine after some steps. The
+-- kit's table keeps this rule between any two atomic operations, and each pass knows its own of the
+-- steps. The laws say how the list of steps begins, and that each step that the machine allows can
+-- be taken by one operation; `SingleSteps` says that each operation is one step.
 use Rattle.std.specs.Prelude.{◌≡◌, ℕ, ◌<◌, Bool, true, List, [], ◌∷◌, ◌++◌, length, slice_index, slice_set, All}
 use mathlib.Core.Option.{some}
 use Rattle.entry_model.specs.State.{State}
@@ -65,8 +65,8 @@ EachOperationIsAStep =
     × ShowsSteps key ((n, step) ∷ steps)
     (words_after words (operation_of v.actor.phase step)) (slice_set views j w)
 
--- The one exception: a first look by a cached line that finds the entry gone from the line's stamp
--- is no step. No word and no actor changes; the pass's front rises past the line.
+-- The one exception: a first look by a cached translation that finds the entry gone from the line's
+-- stamp is no step. No word and no actor changes; the pass's front rises past the line.
 abbrev pub LooksThatFindGoneAreNoSteps : Type 0
 LooksThatFindGoneAreNoSteps =
     (key : Opening) (steps : List (ℕ × Step)) (words : List ℕ) (views : List View) (j n : ℕ)
@@ -106,7 +106,7 @@ AllKeepBit bit [] = Unit {0}
 AllKeepBit bit (r ∷ rs) =
     (bit r.before ≡ true → bit (after_of r) ≡ true) × AllKeepBit bit rs
 
--- In a legal history, a bit that stands after a receipt stands in each later state before, up to
+-- In a legal history, a bit that is set after a receipt is set in each later state before, up to
 -- and with that of the first receipt that clears it.
 abbrev pub RaisedBitsStand : Type 0
 RaisedBitsStand =

@@ -1,5 +1,6 @@
--- What each step of an access by a cached line tells its pass: the view v before, the word found,
--- the view w after. Each is one step of the machine, but for a first look that finds the line gone.
+-- What each step of an access by a cached translation leaves of its pass's view, by the word that
+-- it found. The view is v before the step and w after it. Each is one step of the machine, except
+-- for a first look that finds the line gone.
 use Rattle.std.specs.Prelude.{◌≡◌, ◌≢◌, ℕ, ◌==◌, ◌||◌, not, Bool, true, false, length, Some}
 use Rattle.entry_model.specs.declared.line.Line.{Line}
 use Rattle.entry_model.specs.declared.operation.Op.{Op}

@@ -1,4 +1,4 @@
--- A pass, and the table that it is of.
+-- When a pass is one of a table, whose shares and opening states it then knows.
 use Rattle.std.specs.Prelude.{◌≡◌}
 use Rattle.entry_lock.specs.declared.rule.View.{View}
 use Rattle.entry_lock.specs.declared.table.LockTable.{LockTable}

@@ -1,4 +1,5 @@
--- The same as the kit's table wants it: what a step of a seat tells, by the word that it is on.
+-- The steps of calls and accesses in the form of `atomic_table`: what each leaves of its seat's
+-- view, by its word.
 use Rattle.std.specs.Prelude.{◌≡◌, ℕ, ◌≤◌, Bool, length}
 use Rattle.atomic_table.specs.Table.{Me, Step as TableStep}
 use Rattle.entry_model.specs.declared.operation.Op.{Op}
@@ -9,7 +10,7 @@ use Rattle.entry_lock.specs.Layout.{control_place, data_place}
 use Rattle.entry_lock.specs.HolderSteps.{LoadTells, StoreTells}
 use Rattle.entry_lock.specs.AccessSteps.{LookedLoadTells}
 
--- What a step of a table tells: the step, the seat before, the word found, the seat after.
+-- What holds of a step of a table: the step, the seat before, the word found, the seat after.
 abbrev pub Telling : Type 1
 Telling = TableStep ℕ → Me ℕ View → ℕ → Me ℕ View → Type 0
 
@@ -53,7 +54,7 @@ LookedDataPlay s m found w =
 abbrev pub DecidingPlay : (Doing → View → ℕ → View → Type 0) → Doing → Telling
 DecidingPlay tells a s m found w = tells a m.0 found w.0 × (w.1 ≡ m.1)
 
--- A step of an access by a cached line.
+-- A step of an access by a cached translation.
 abbrev pub LinePlay : (View → ℕ → View → Type 0) → Telling
 LinePlay tells s m found w = tells m.0 found w.0 × (w.1 ≡ m.1)
 

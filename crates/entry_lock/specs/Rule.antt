@@ -1,5 +1,5 @@
--- The rule of the table: its words and the views of its passes show a state of the machine that a
--- list of the machine's steps reaches, and each pass knows which of these it took.
+-- The rule of the table: its words and its passes' views show the machine after a list of steps.
+-- Each pass knows which of these steps it took.
 use Rattle.std.specs.Prelude.{◌≡◌, ◌⊎◌, ℕ, ◌+◌, ◌*◌, ◌<◌, ◌≤◌, true, false, List, [], ◌∷◌, length, slice_index, slice_get, Some, All}
 use mathlib.Core.Option.{some}
 use Rattle.atomic_table.specs.Table.{State as TableState}
@@ -85,7 +85,7 @@ pub record Shows (key : Opening) (m : Machine) (shared : List ℕ) (known : List
   pub owned :
       (n : ℕ) (a : Actor) → slice_get m.actors n ≡ Some a → a.live ≡ true
       → (j : ℕ) × (v : View) × (get_elem? known j ≡ some v) × IsHead v.numbers n
-  -- no number stands twice
+  -- no number is in the views more than once
   pub apart : (n : ℕ) → total (λ v. occurrences n v.numbers) known ≤ 1
   -- the numbers are as many as there are shares
   pub shares : total (λ v. length v.numbers) known ≡ key.passes

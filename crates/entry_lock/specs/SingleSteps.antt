@@ -1,4 +1,4 @@
--- Each atomic operation is one step of the machine: what it tells its pass names the step.
+-- Each atomic operation is one step of the machine: the views before and after it name the step.
 use Rattle.std.specs.Prelude.{◌⊎◌, ℕ, Bool, [], ◌∷◌}
 use Rattle.entry_model.specs.declared.line.Line.{Line}
 use Rattle.entry_model.specs.declared.operation.Op.{Op}
@@ -11,7 +11,7 @@ use Rattle.entry_lock.specs.HolderSteps.{LockTells, LoadTells, ShutTells, StoreT
 use Rattle.entry_lock.specs.AccessSteps.{LookTells, LookedLoadTells, SecondLookTells, MarkTells}
 use Rattle.entry_lock.specs.LineSteps.{LineLookTells, LineSecondLookTells, LineMarkTells}
 
--- What is told of an operation, whatever word it found, names this one step.
+-- Whatever word an operation found, its view after has taken just this one step.
 abbrev pub Names : (View → ℕ → View → Type 0) → Step → Type 0
 Names tells step = (v w : View) (found : ℕ) → tells v found w → Took (step ∷ []) v w
 
@@ -31,7 +31,8 @@ pub record AccessOperationsAreSteps : Type 0 where
   pub again : (d : Doing) → Names (SecondLookTells d) (Look d.entry d.op)
   pub mark : (d : Doing) → Names (MarkTells d) Mark
 
--- Each operation of an access by a cached line, but for a first look that finds the line gone.
+-- Each operation of an access by a cached translation, except for a first look that finds the line
+-- gone.
 pub record LineOperationsAreSteps : Type 0 where
   pub look :
       (cached : Line) (op : Op) (v w : View) (found : ℕ) → LineLookTells cached op v found w

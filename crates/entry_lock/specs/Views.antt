@@ -9,7 +9,7 @@ use Rattle.entry_lock.specs.declared.rule.View.{View}
 use Rattle.entry_lock.specs.declared.rule.Opening.{Opening}
 
 -- ---- sums
--- How often a number stands in a list.
+-- How often a number is in a list.
 abbrev pub occurrences : ℕ → List ℕ → ℕ
 occurrences n [] = 0
 occurrences n (x ∷ xs) = if x == n then 1 + occurrences n xs else occurrences n xs

@@ -26,7 +26,7 @@ pub record MadeInTable (order : ℕ) (v w : View) (rs : List Receipt) : Type 0 w
   pub made : MadeReceipts v w rs
   pub inside : All (IsInTable order) rs
 
--- The cached line is one of an entry of the table, and was seen.
+-- The cached translation is one of an entry of the table, and was seen.
 pub record IsSeenInTable (order : ℕ) (lines : List Sighting) (opening : List State) (cached : Line)
     : Type 0 where
   pub inside : cached.entry < entry_count order

@@ -1,3 +1,5 @@
+//! Why a try made no receipt: its entry, and the control words that it noted and found there.
+
 /// The answer of a try that made no receipt, because another pass was at the entry.
 #[derive(Clone, Copy, PartialEq, Eq, Debug)]
 pub struct Busy {

@@ -1,4 +1,5 @@
-//! What a table is, and its closing.
+//! The order and the shares of a table, and how a pass with all shares closes it to a list of
+//! states.
 ghost use Rattle.std.specs.Prelude.{◌≡◌, ◌≤◌};
 ghost use Rattle.entry_lock.specs.PassOfTable.{IsOf, view_of};
 ghost use Rattle.entry_lock.specs.Closing.{Closes};

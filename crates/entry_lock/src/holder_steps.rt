@@ -57,7 +57,7 @@ pub fn shut(table: &Words, seat: &mut PassSeat, doing: &Doing) -> u64
 }
 
 /// Lets an entry go that wasn't changed: the word found. Only the lock bit is cleared, since
-/// accesses may have raised R and C beside it.
+/// accesses may have raised R and C in the meantime.
 pub fn release(table: &Words, seat: &mut PassSeat, doing: &Doing) -> u64
     requires table { IsAt table.now.table_id seat.old.table_id table.now.key seat.old.me }
     requires entry { doing.now.entry < length (states_of table.now.key) }

@@ -18,8 +18,8 @@ pub fn tables_open_on_their_states()
     ensures { TablesOpenOnTheirStates }
 {}
 
-/// Each atomic operation on an entry is one step of the machine, and tells its pass which: but for
-/// a first look that finds a cached line gone, which is none.
+/// Each atomic operation on an entry is one step of the machine, and its pass knows which. The one
+/// exception is a first look that finds a cached translation gone, which is no step.
 pub fn operations_are_single_steps()
     ensures { OperationsAreSingleSteps }
 {}
@@ -29,7 +29,7 @@ pub fn each_operation_is_a_step()
     ensures { EachOperationIsAStep }
 {}
 
-/// A first look by a cached line that finds the entry gone is no step of the machine.
+/// A first look by a cached translation that finds the entry gone is no step of the machine.
 pub fn looks_that_find_gone_are_no_steps()
     ensures { LooksThatFindGoneAreNoSteps }
 {}
@@ -44,7 +44,7 @@ pub fn joins_are_steps()
     ensures { JoinsAreSteps }
 {}
 
-/// In the histories that `LockTable::close` gives, a bit that stands after a receipt stands in each
+/// In the histories that `LockTable::close` gives, a bit that is set after a receipt is set in each
 /// later state before, up to and with that of the first receipt that clears it.
 pub fn raised_bits_stand()
     ensures { RaisedBitsStand }

@@ -1,4 +1,5 @@
-//! Where the words of entries stand in the table.
+//! Where an entry's control word and its two data words are in the table, whose word 0 is no
+//! entry's.
 ghost use Rattle.std.specs.Prelude.{◌≡◌};
 ghost use Rattle.entry_lock.specs.Layout.{data_place};
 
@@ -14,7 +15,7 @@ pub const FIRST: usize = 2;
 /// The second data word.
 pub const SECOND: usize = 3;
 
-/// Where an entry's first or second data word stands.
+/// The index in the table of an entry's first or second data word.
 pub fn data_index(entry: u32, second: bool) -> usize
     ensures { result ≡ data_place entry second }
 {

@@ -10,6 +10,14 @@
 //! The rule that each step keeps: words and passes show a state of `lock_core`'s machine. So what
 //! holds of every list of the machine's steps holds of the table, and a pass with all shares closes
 //! it to states to which each entry's history leads. `src/laws.rt` states the rule step by step.
+//!
+//! Main contracts: `Pass::try_apply`, `try_known`: one receipt at the end of the pass's list and
+//! not before its front, or none, in one try (at most one lock step, or two looks and marks), by
+//! exactly the machine's steps that its clause `steps` names, and busy only for causes in the words
+//! of the call's entry; `LockTable::close`: the passes' receipts are those of a run of
+//! `lock_core`'s machine; `LockTable::state_at_rest`: the state that an entry closes to; laws such
+//! as `operations_are_single_steps`, `each_operation_is_a_step`, `raised_bits_stand`,
+//! `tables_are_shared`.
 #![tactic(auto)]
 
 mod access_steps;

@@ -1,4 +1,4 @@
-//! One try of an access by a cached line. The line has the entry's words, so no data word is
+//! One try of an access by a cached translation. The line has the entry's words, so no data word is
 //! loaded.
 ghost use Rattle.std.specs.Prelude.{◌≡◌, ◌≢◌, ◌<◌, [], ◌∷◌, length, true, false, IfOk, IfErr, IfSome, IfNone, IsOk};
 ghost use Rattle.entry_model.specs.Receipt.{is_access, IsReceiptOf};

@@ -1,4 +1,4 @@
-//! The single atomic steps of an access by a cached line.
+//! The single atomic steps of an access by a cached translation.
 ghost use Rattle.std.specs.Prelude.{◌≡◌, ◌<◌, length, true, false, None};
 ghost use Rattle.entry_model.specs.Receipt.{is_access};
 ghost use Rattle.lock_core.specs.declared.phase.Phase.TheVariants.{Idle};

@@ -1,4 +1,5 @@
-//! Opening a table.
+//! How a table is made of a list of states: all memory is taken first, and then there is one pass
+//! with all shares.
 ghost use Rattle.std.specs.Prelude.{◌≡◌, ◌+◌, ◌-◌, ◌*◌, ◌<◌, ◌≤◌, ◌^◌, [], ◌∷◌, length, All, IfOk, IfErr, vec_len, vec_capacity};
 ghost use Rattle.hpte_fields.specs.TableSize.{IsTableOrder, entry_count};
 ghost use Rattle.entry_model.specs.Fronts.{opening_fronts};

@@ -166,7 +166,7 @@ impl Pass {
         Pass { seat, shares: 1 }
     }
 
-    /// Takes in another pass: its shares, its receipts behind this one's, and what it has seen and
+    /// Takes in another pass: its shares, its receipts after this one's, and what it has seen and
     /// found gone. It takes no memory.
     pub fn join(&mut self, table: &LockTable, other: Pass)
         requires table { IsOf table.now self.old }
@@ -193,7 +193,7 @@ impl Pass {
     {
         let Pass { seat, shares } = other;
         table.table.shared.join_seat::<JoinIn>(&mut self.seat, seat);
-        // A join tells the pass nothing. This look tells that the shares are no more than there
+        // A join shows the pass nothing. This look shows that the shares are no more than there
         // are, so that their sum fits.
         bound_shares(&table.table.shared, &mut self.seat);
         self.shares += shares;

@@ -1,5 +1,5 @@
-//! What each step tells, as the kit's table wants it. These types are for the proofs alone: no
-//! value of them is made.
+//! What each atomic step shows its pass, in the form that `atomic_table` asks for. These types are
+//! for the proofs alone: no value of them is made.
 use crate::rule::View;
 use atomic_table::{Join, Play, Split};
 use std::marker::{Brand, PhantomData};
@@ -45,7 +45,7 @@ impl ForDoing for Brand {
     } };
 }
 
-/// The cached line that a first look is by, and the operation. Each call picks them.
+/// The cached translation that a first look is by, and the operation. Each call picks them.
 pub trait ForLineLook {
     ghost use Rattle.entry_model.specs.declared.line.Line.{Line};
     ghost use Rattle.entry_model.specs.declared.operation.Op.{Op};
@@ -71,8 +71,8 @@ impl ForLineLook for Brand {
     ghost op = { Read };
 }
 
-/// The cached line that an access is decided by, and what was noted of the access. Each call picks
-/// them.
+/// The cached translation that an access is decided by, and what was noted of the access. Each call
+/// picks them.
 pub trait ForLineDoing {
     ghost use Rattle.entry_model.specs.declared.line.Line.{Line};
     ghost use Rattle.lock_core.specs.declared.doing.Doing.{Doing};
@@ -217,7 +217,7 @@ impl<W: ForDoing> Play<u8, View> for Marks<W> {
     ghost then = { DecidingPlay MarkTells W.doing };
 }
 
-/// The first look by a cached line.
+/// The first look by a cached translation.
 pub struct LineLooks<W> {
     marker: PhantomData<W>,
 }
@@ -229,7 +229,7 @@ impl<W: ForLineLook> Play<u8, View> for LineLooks<W> {
     ghost then = { LinePlay (LineLookTells W.cached W.op) };
 }
 
-/// The second look by a cached line.
+/// The second look by a cached translation.
 pub struct LineSecondLooks<W> {
     marker: PhantomData<W>,
 }
@@ -241,7 +241,7 @@ impl<W: ForLineDoing> Play<u8, View> for LineSecondLooks<W> {
     ghost then = { LinePlay (LineSecondLookTells W.cached W.doing) };
 }
 
-/// The mark by a cached line.
+/// The mark by a cached translation.
 pub struct LineMarks<W> {
     marker: PhantomData<W>,
 }

@@ -1,5 +1,4 @@
-//! What a load tells a pass with all shares. The type is for the proofs alone, as those of
-//! `plays`.
+//! What a load shows a pass with all shares. The type is for the proofs alone, as those of `plays`.
 use crate::rule::View;
 use atomic_table::Play;
 

@@ -1,4 +1,5 @@
-//! The states that a table closes to, read while it lasts.
+//! The state to which a table would close each entry, read by a pass with all shares while the
+//! table lasts.
 ghost use Rattle.std.specs.Prelude.{◌≡◌, ◌<◌, length};
 ghost use Rattle.hpte_fields.specs.TableSize.{entry_count};
 ghost use Rattle.lock_core.specs.declared.phase.Phase.TheVariants.{Idle};

@@ -1,4 +1,5 @@
-//! What the table's words and the passes' views show.
+//! The rule of the table: its words and the views of its passes show a state of `lock_core`'s
+//! machine.
 use atomic_table::{Seat, Shared, TableRule};
 use entry_model::EntryState;
 use lock_core::{Actor, Step};
@@ -33,7 +34,7 @@ pub struct View {
     pub found: u64,
 }
 
-/// What the table is told when it is made.
+/// What the table is made with.
 #[derive(Drop)]
 pub struct Opening {
     /// The state of each entry.

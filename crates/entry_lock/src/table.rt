@@ -1,4 +1,5 @@
-//! The table and a pass over it, as they lie in memory.
+//! The types of the running table and of a pass, the right to take steps on it, as they lie in
+//! memory.
 ghost use Rattle.std.specs.Prelude.{vec_capacity};
 ghost use Rattle.entry_lock.specs.PassInvariants.{IsIdle, IsSized, HasShares, HasLists};
 

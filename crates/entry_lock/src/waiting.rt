@@ -67,7 +67,7 @@ impl<'a, R: Wait, P: Pause> EntryStore for Waiting<'a, R, P> {
         MadeInTable a.table.now.order (view_of a.pass) (view_of b.pass) rs
         × (b.table.now ≡ a.table.now) };
 
-    // The line stands in the pass's list, or holds of its entry's opening state.
+    // The line is one of the pass's list, or holds of its entry's opening state.
     ghost seen = { λ s cached.
         IsSeenInTable s.table.now.order (view_of s.pass).actor.lines
         s.table.now.opening.items cached };

@@ -73,7 +73,7 @@ fn remove() -> Op {
     Op::Remove { test: no_test() }
 }
 
-/// A table of empty entries but for this one, and a pass with all shares.
+/// A table of empty entries except for this one, and a pass with all shares.
 fn open_table(
     alloc: Global,
     state: EntryState,

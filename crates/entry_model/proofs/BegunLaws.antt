@@ -9,7 +9,7 @@ use Rattle.entry_model.specs.Trial.{Call, call, IsTrial, ending_of}
 use Rattle.entry_model.specs.Calls.{call_at}
 use Rattle.entry_model.specs.Begun.{IsBegunTrial}
 
--- ---- the call behind the first ones
+-- ---- the call after the first ones
 pub at_inside : (cs : List Call) (i : ℕ) (x : ℕ × Op) → call_at cs i ≡ Some x → i < length cs
 at_inside [] i x at = cc
 at_inside (c ∷ cs) zero x at = omega arith

@@ -1,5 +1,5 @@
--- Lists of calls of one operation on entries that stand one behind the other, and two lists one
--- behind the other.
+-- Lists of calls of one operation on entries that stand one after the other, and two lists one
+-- after the other.
 use Rattle.std.proofs.Common.{◌≡◌, ℕ, zero, suc, ◌+◌, ◌<◌, ◌≤◌, List, [], ◌∷◌, ◌++◌, Some, None, length, refl, ap, ◌∙◌, arith}
 use Rattle.std.specs.List.{AllByRecursion}
 use Rattle.std.proofs.lemmas.List.{length-append}
@@ -12,7 +12,7 @@ use Rattle.entry_model.specs.Calls.{call_at, AreCallsIn}
 use Rattle.entry_model.proofs.BegunLaws.{at_end}
 use Rattle.basics.proofs.Each.{each_append}
 
--- ---- one operation on entries that stand one behind the other
+-- ---- one operation on entries that stand one after the other
 pub row_length : (op : Op) (first count : ℕ) → length (calls_from op first count) ≡ count
 row_length op first zero = refl
 row_length op first (suc count) = ap suc (row_length op (first + 1) count)
@@ -61,7 +61,7 @@ row_in order op first count inside normal few = record {
   few = omega (arith, row_length op first count, few);
 }
 
--- ---- two lists one behind the other
+-- ---- two lists one after the other
 pub at_before : (cs ds : List Call) (i : ℕ) → i < length cs → call_at (cs ++ ds) i ≡ call_at cs i
 at_before [] ds i inside = absurd (omega (arith, inside))
 at_before (c ∷ cs) ds zero inside = refl

@@ -24,7 +24,7 @@ no_further s =
 pub stays : (s : State) → Follows s s
 stays s = inl (no_further s)
 
--- ---- one behind the other
+-- ---- one after the other
 pub further_on : (s t u : State) → OnlyRaisesBits s t → OnlyRaisesBits t u → OnlyRaisesBits s u
 further_on s t u a b = record {
   valid = b.valid ∙ a.valid;

@@ -66,7 +66,7 @@ lower_keeps f g h (r ∷ rs) b k = (
       (below_set f g r.entry (pair_of (after_of r)) b) k.1,
 )
 
--- Two lists of them, one behind the other, are one.
+-- Two lists of them, one after the other, are one.
 pub keeps_more :
     (f g h : List ℕ) (xs ys : List Receipt)
     → KeepsFronts f xs g

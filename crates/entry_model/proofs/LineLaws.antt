@@ -59,7 +59,7 @@ shown_here a b r line step decided at =
     (step.before ∙ ap (state_at a) (sym at.entry)) now in
     holds_on line _ _ (step_follows a b r line.entry step) was
 
--- A line that receipts show holds of its entry in the state behind them.
+-- A line that receipts show holds of its entry in the state after them.
 pub run_shows :
     (a b : List State) (rs : List Receipt) (line : Line)
     → IsRun a rs b

@@ -29,7 +29,7 @@ logged_history e a b log rs legal same =
     legal_regrouped a b (filter (λ r. eqb r.entry e) log) (filter (λ r. eqb r.entry e) rs)
     (regrouped_filter (λ r. eqb r.entry e) same) legal
 
--- ---- lists regrouped, put one behind the other
+-- ---- lists regrouped, put one after the other
 pub regrouped_before :
     (xs : List Receipt) {ys zs : List Receipt} → Regrouped ys zs → Regrouped (xs ++ ys) (xs ++ zs)
 regrouped_before [] h = h
@@ -42,7 +42,7 @@ regrouped_behind zs (kept r h) = kept r (regrouped_behind zs h)
 regrouped_behind zs (swapped r s xs) = swapped r s (xs ++ zs)
 regrouped_behind zs (twice a b) = twice (regrouped_behind zs a) (regrouped_behind zs b)
 
--- One receipt goes behind others.
+-- One receipt goes after others.
 pub regrouped_last : (r : Receipt) (xs : List Receipt) → Regrouped (r ∷ xs) (xs ++ r ∷ [])
 regrouped_last r [] = regrouped_self (r ∷ [])
 regrouped_last r (x ∷ xs) = twice (swapped r x xs) (kept x (regrouped_last r xs))

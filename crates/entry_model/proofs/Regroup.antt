@@ -1,5 +1,5 @@
--- The history doesn't depend on the order in which receipts are listed, but for receipts that tie;
--- and these may change places.
+-- The history doesn't depend on the order in which receipts are listed, except for receipts that
+-- tie; and these may change places.
 use Rattle.std.specs.Prelude.{filter}
 use Rattle.std.proofs.Common.{◌≡◌, ℕ, ◌*◌, ◌<◌, List, [], ◌∷◌, Bool, true, false, cond, arith, ap, sym, ◌∙◌, refl, subst, ◌⊎◌, inl, inr, eqb}
 use Rattle.std.proofs.lemmas.Bool.{cases_Bool, cond_both}
@@ -10,7 +10,7 @@ use Rattle.entry_model.specs.Receipt.{after_of}
 use Rattle.entry_model.specs.History.{IsLegal, by_place, put_in, precedes, place, pair_of, history, Regrouped, nothing, kept, swapped, twice}
 use Rattle.entry_model.proofs.Sorted.{rises, flag, place_unchanged, place_same, legal_by_place}
 
--- the same list but for neighbors of one place that changed places
+-- the same list except for neighbors of one place that changed places
 pub data Ties : List Receipt → List Receipt → Type 0 where
   none : Ties [] []
   same : (m : Receipt) {xs ys : List Receipt} → Ties xs ys → Ties (m ∷ xs) (m ∷ ys)
@@ -153,7 +153,7 @@ put_pair x y zs fx fy = at (cases_Bool (precedes x y)) (cases_Bool (precedes y x
       along (left ∙ put_on x y zs p ∙ ap (λ l. y ∷ l) fx)
       (right ∙ put_on y x zs q ∙ ap (λ l. x ∷ l) fy) (tie y x zs (sym (neither_way x y p q)))
 
--- one in front of z and the other behind it
+-- one in front of z and the other after it
 put_apart :
     (x y z : Receipt) (zs : List Receipt)
     → precedes x z ≡ true

@@ -24,8 +24,8 @@ pub record IsLeft (s : State) (op : Op) (a : Answer) : Type 0 where
   pub decided : is_decided a ≡ true → s.valid ≡ true
   pub undecided : is_access op ≡ false → is_decided a ≡ false
 
--- Which operation changes an entry in this state to which next one, but for the stamp, with which
--- answer.
+-- Which operation changes an entry in this state to which next one, except for the stamp, with
+-- which answer.
 pub data Changes (s : State) : Op → Answer → State → Type 0 where
   enters :
       (dword0 dword1 : ℕ)
@@ -68,7 +68,7 @@ pub data Replied (s : State) : Op → Answer × State → Type 0 where
       (answers.At, touched_state s want)
 
 -- ---- each reply is one of them
--- An answer that tells nothing of the entry.
+-- An answer that says nothing of the entry.
 plain :
     {s : State} {op : Op} (a : Answer)
     → is_change a ≡ false

@@ -1,4 +1,4 @@
--- Runs, one behind the other.
+-- Runs, one after the other.
 use Rattle.std.specs.Prelude.{◌≡◌, List, [], ◌∷◌, ◌++◌, length}
 use Rattle.std.proofs.Common.{subst, ◌∙◌, ap, length-set}
 use Rattle.entry_model.specs.State.{State}
@@ -6,7 +6,7 @@ use Rattle.entry_model.specs.declared.receipt.Receipt.{Receipt}
 use Rattle.entry_model.specs.Receipt.{after_of}
 use Rattle.entry_model.specs.Run.{IsRun}
 
--- Two runs, one behind the other, are one.
+-- Two runs, one after the other, are one.
 pub run_more :
     (a b c : List State) (xs ys : List Receipt) → IsRun a xs b → IsRun b ys c → IsRun a (xs ++ ys) c
 run_more a b c [] ys ab bc = subst (λ s. IsRun s ys c) ab bc

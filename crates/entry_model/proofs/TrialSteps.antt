@@ -1,4 +1,4 @@
--- One step of a trial over entries that stand one behind the other.
+-- One step of a trial over entries that stand one after the other.
 use Rattle.std.specs.Prelude.{map}
 use Rattle.std.proofs.Common.{◌≡◌, ℕ, ◌-◌, List, [], ◌∷◌, ◌++◌, length, drop, Bool, true, false, Some, sym, ap, ◌∙◌, refl, append_assoc, arith}
 use Rattle.std.proofs.lemmas.List.{length-append}
@@ -26,7 +26,7 @@ pub ending-off :
     → ending_of goes (r ∷ rs) ≡ Some r
 ending-off goes r rs off = rw off refl
 
--- ---- the receipts behind those of before
+-- ---- the receipts after those of before
 
 pub added-push :
     (old new : List Receipt) (r : Receipt)

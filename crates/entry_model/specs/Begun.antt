@@ -1,4 +1,5 @@
--- Trials that are begun.
+-- Trials that need not have ended: receipts of the first calls of a hypervisor call's plan, in
+-- turn.
 use Rattle.std.specs.Prelude.{◌≡◌, Bool, true, List, [], ◌∷◌}
 use Rattle.entry_model.specs.declared.operation.Answer.{Answer}
 use Rattle.entry_model.specs.declared.receipt.Receipt.{Receipt}

@@ -1,4 +1,4 @@
--- Cached lines: what a cached translation says of its entry.
+-- What a cached translation says of its entry's state, and which receipts show it.
 use Rattle.std.specs.Prelude.{◌≡◌, ℕ, ◌<◌, ◌⊎◌, List, [], ◌∷◌, IsTrue}
 use Rattle.std.specs.List.{AllByRecursion}
 use Rattle.power_addr.specs.Pages.{VirtualPage, first_page}

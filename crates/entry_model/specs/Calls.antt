@@ -1,4 +1,4 @@
--- Lists of calls on entries.
+-- Lists of calls on entries: the next call after some were made, and which lists fit a table.
 use Rattle.std.specs.Prelude.{ℕ, zero, suc, ◌<◌, ◌≤◌, List, [], ◌∷◌, Option, Some, None, length}
 use Rattle.std.specs.List.{AllByRecursion}
 use Rattle.hpte_fields.specs.TableSize.{entry_count}
@@ -6,7 +6,7 @@ use Rattle.entry_model.specs.declared.operation.Op.{Op}
 use Rattle.entry_model.specs.Receipt.{IsNormal}
 use Rattle.entry_model.specs.Trial.{Call}
 
--- The entry and the operation of the call behind the first ones, if there is one.
+-- The entry and the operation of the call after the first ones, if there is one.
 abbrev pub call_at : List Call → ℕ → Option (ℕ × Op)
 call_at [] i = None
 call_at (c ∷ cs) zero = Some (c.entry, c.op)

@@ -1,5 +1,5 @@
--- The laws of replies, of histories and of fronts. Whoever changes the words of an entry one at a
--- time rests on these, and on nothing else of the table of operations.
+-- The laws of replies, of histories and of fronts, by which a protocol that changes the words of an
+-- entry one at a time is proved. The rows of the table of operations are in `Reply`.
 use Rattle.std.specs.Prelude.{ℕ, ◌==◌, ◌&&◌, ◌||◌, nat_lt, nat_le, if◌then◌else◌, List, filter, ◌≡◌, ◌+◌, ◌++◌, ◌⊎◌, ◌<◌, ◌^◌, ◌↔◌, Bool, true, false, IsTrue}
 use Rattle.entry_model.specs.CachedLines.{AllLater}
 use Rattle.entry_model.specs.History.{IsLegal, bits, state_eq, precedes, history, Regrouped}
@@ -133,7 +133,7 @@ LoggedHistoriesAreLegal =
     → IsLegal a (history e listed) b
 
 -- ---- fronts
--- Two lists of receipts that keep fronts, one behind the other, are one.
+-- Two lists of receipts that keep fronts, one after the other, are one.
 abbrev pub FrontsCompose : Type 0
 FrontsCompose =
     (fronts mid later : List ℕ) (xs ys : List Receipt)

@@ -1,4 +1,4 @@
--- Receipts: one operation that was made on one entry.
+-- Receipts: one operation that was made on one entry, and tests of its answer.
 use Rattle.std.specs.Prelude.{refl, ◌≡◌, ℕ, Some, Bool, true, false, List, Option, find, not, None}
 use Rattle.entry_model.specs.State.{State, empty_state}
 use Rattle.entry_model.specs.declared.operation.Answer.{Answer}

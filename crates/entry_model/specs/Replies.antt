@@ -1,5 +1,4 @@
--- Replies in their two parts: what a call or an access tells of its end, and the receipts that it
--- made.
+-- Replies in two parts: how a call or an access ended, and the receipts that it made.
 use Rattle.std.specs.Prelude.{List, []}
 use Rattle.entry_model.specs.declared.receipt.Receipt.{Receipt}
 use Rattle.entry_model.specs.declared.hreply.HReply.{HReply}

@@ -51,7 +51,7 @@ change_to s answer next =
 abbrev pub change_where : Bool → State → Answer → State → Answer × State
 change_where found s answer next = if found then change_to s answer next else (NotFound, s)
 
--- What H_ENTER makes of an empty entry, but for the stamp: R and C are those of the given
+-- What H_ENTER makes of an empty entry, except for the stamp: R and C are those of the given
 -- doubleword.
 abbrev pub entered_state : ℕ → ℕ → State
 entered_state dword0 dword1 = record {

@@ -1,9 +1,10 @@
--- The state of one page table entry.
+-- The state of one page table entry: its doublewords without R and C, these two bits, and its
+-- stamp.
 use Rattle.std.specs.Prelude.{◌≡◌, ℕ, ◌+◌, ◌<◌, ◌⊎◌, Bool, false, bit_and, true, if◌then◌else◌}
 use Rattle.hpte_fields.specs.Fields.{rc_bits}
 
 -- The two doublewords without R and C, the two bits, and the stamp: how often the entry has
--- changed, but for R and C that accesses set.
+-- changed, except for R and C that accesses set.
 pub record State : Type 0 where
   pub valid : Bool
   pub dword0 : ℕ

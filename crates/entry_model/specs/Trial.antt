@@ -1,5 +1,5 @@
 -- Trials: the calls on entries that a hypervisor call names, made in turn as long as the answers go
--- on, and the reply that their receipts give.
+-- on. Their receipts give the reply.
 use Rattle.std.specs.Prelude.{◌≡◌, ℕ, List, [], ◌∷◌, Bool, true, if◌then◌else◌, MatchBool, Option, not, find, drop, length}
 use Rattle.entry_model.specs.State.{State}
 use Rattle.entry_model.specs.declared.operation.Op.{Op}
@@ -31,7 +31,7 @@ IsTrial goes (c ∷ cs) (r ∷ rs) =
 abbrev pub ending_of : (Answer → Bool) → List Receipt → Option Receipt
 ending_of goes rs = find (λ (r : Receipt). not (goes r.answer)) rs
 
--- The receipts behind those that were there before.
+-- The receipts after those that were there before.
 abbrev pub receipts_added : List Receipt → List Receipt → List Receipt
 receipts_added old new = drop (length old) new
 

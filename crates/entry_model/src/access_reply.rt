@@ -1,3 +1,5 @@
+//! How a processor's access is answered: its outcome, whether a cached translation or a walk found
+//! the entry, and its receipts.
 ghost use Rattle.std.specs.Prelude.{◌≡◌};
 
 use crate::lists::Receipts;
@@ -35,7 +37,7 @@ pub enum By {
 pub struct AccessEnd {
     /// Whether it was allowed, and where it landed or why it was refused.
     pub outcome: Outcome,
-    /// By a cached translation or by a walk; `None` exactly where no segment was found.
+    /// By a cached translation or by a walk; `None` exactly if no segment was found.
     pub by: Option<By>,
 }
 
@@ -60,7 +62,7 @@ impl AccessEnd {
 pub struct AccessReply {
     /// Whether it was allowed, and where it landed or why it was refused.
     pub outcome: Outcome,
-    /// By a cached translation or by a walk; `None` exactly where no segment was found.
+    /// By a cached translation or by a walk; `None` exactly if no segment was found.
     pub by: Option<By>,
     /// One of a hit, or one for each entry that a walk tried: at most sixteen.
     pub receipts: Receipts,

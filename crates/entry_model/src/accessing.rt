@@ -1,3 +1,5 @@
+//! How an entry answers a processor's access: it is compared with the page, then protection and the
+//! authority masks decide, and R and C are set.
 ghost use Rattle.std.specs.Prelude.{◌≡◌, true, is_some};
 ghost use Rattle.entry_model.specs.Reply as table;
 

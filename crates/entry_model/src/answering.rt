@@ -1,3 +1,5 @@
+//! The table of operations on one page table entry: for each operation the answer and the next
+//! state.
 ghost use Rattle.std.specs.Prelude.{◌≡◌, true, false, if◌then◌else◌};
 ghost use Rattle.hpte_fields.specs.Fields.{protected_word};
 ghost use Rattle.entry_model.specs.Receipt.{after_of};

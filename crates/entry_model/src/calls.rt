@@ -1,3 +1,5 @@
+//! What a trial asks of a hypervisor call: its operations on entries, in order, and the answers
+//! after which it goes on.
 ghost use Rattle.std.specs.Prelude.{◌≡◌, ◌≤◌, Bool, List, length};
 ghost use Rattle.entry_model.specs.declared.operation.Answer.{Answer};
 ghost use Rattle.entry_model.specs.Trial.{Call};
@@ -13,7 +15,7 @@ pub trait CallList {
     /// After which answers the next of them is made.
     ghost goes_on: { Self → Answer → Bool };
 
-    /// The entry and the operation of the call that comes behind the first `made`, if there is one.
+    /// The entry and the operation of the call that comes after the first `made`, if there is one.
     fn call_at(&self, made: u32) -> Option<(u32, Op)>
         requires { made ≤ length (calls self.now) }
         ensures { result ≡ lists.call_at (calls self.now) made };

@@ -1,3 +1,5 @@
+//! How a device's access through a DMA window is answered: its outcome, and the receipt of the TCE
+//! that it read.
 ghost use Rattle.std.specs.Prelude.{◌≡◌};
 
 use crate::lists::Receipts;

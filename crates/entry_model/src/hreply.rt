@@ -1,10 +1,12 @@
+//! Replies of hypervisor calls, in two parts: what is left in registers, and the receipts of the
+//! operations.
 ghost use Rattle.std.specs.Prelude.{◌≡◌, []};
 
 use crate::lists::{Receipts, ReplyWords};
 use papr_codes::Rc;
 
 /// What a hypervisor call leaves in registers: its return code in register 3, and the words in
-/// register 4 and those behind it. With the receipts of its operations it is the call's reply.
+/// register 4 and those after it. With the receipts of its operations it is the call's reply.
 #[derive(Drop)]
 pub struct Registers {
     /// Register 3.
@@ -39,7 +41,7 @@ impl Registers {
     }
 }
 
-/// The reply of a hypervisor call: its return code, the words in register 4 and those behind it,
+/// The reply of a hypervisor call: its return code, the words in register 4 and those after it,
 /// and the receipts of the operations that it made, in their order.
 #[derive(Drop)]
 pub struct HReply {

@@ -39,7 +39,7 @@ pub fn decided_is_valid()
     ensures { DecidedIsValid }
 {}
 
-/// An access is answered Masked exactly where the entry translates its page, protection allows it,
+/// An access is answered Masked exactly if the entry translates its page, protection allows it,
 /// and a mask of its processor refuses it for the entry's key.
 pub fn masked_exactly_where()
     ensures { MaskedExactlyWhere }
@@ -72,7 +72,7 @@ pub fn logged_histories_are_legal()
     ensures { LoggedHistoriesAreLegal }
 {}
 
-/// Receipts that keep fronts may be put one behind the other.
+/// Receipts that keep fronts may be put one after the other.
 pub fn fronts_compose()
     ensures { FrontsCompose }
 {}

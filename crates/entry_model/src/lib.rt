@@ -5,6 +5,9 @@
 //! processor by the entry's translation (Power ISA Book III, hashed page table translation and the
 //! recording of references and changes). Receipts place each operation in its entry's history
 //! (`specs/History.antt`).
+//!
+//! Main contracts: `reply` is the table of operations; `EntryStore` with its laws; laws of replies,
+//! histories and fronts.
 #![tactic(auto)]
 
 mod access_reply;

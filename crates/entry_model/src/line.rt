@@ -1,3 +1,4 @@
+//! What a processor's translation cache keeps of a page table entry whose translation it used.
 ghost use Rattle.std.specs.Prelude.{◌≡◌};
 ghost use Rattle.entry_model.specs.CachedLines.{blank_line};
 
@@ -19,7 +20,7 @@ pub struct Line {
     pub dword1: u64,
 }
 
-/// What a set of cached lines holds past its end.
+/// What a set of cached translations holds past its end.
 impl Default for Line {
     ghost is_default = { λ line. line ≡ blank_line };
 

@@ -1,3 +1,5 @@
+//! Lists of bounded length that need no allocator: at most 16 receipts of a call, and at most 8
+//! words of its reply.
 ghost use Rattle.std.specs.Prelude.{◌≡◌, ◌<◌, ◌≤◌, ◌++◌, [], ◌∷◌, length};
 ghost use Rattle.entry_model.specs.Receipt.{blank_receipt};
 
@@ -68,7 +70,7 @@ impl Receipts {
     }
 }
 
-/// The words of a reply, at most 8: register 4 and those behind it.
+/// The words of a reply, at most 8: register 4 and those after it.
 #[derive(Drop)]
 pub struct ReplyWords {
     items: ArrayVec<u64, 8>,

@@ -1,3 +1,5 @@
+//! How a hypervisor call's operations are made on a store of entries: one after the other, until an
+//! answer ends them.
 ghost use Rattle.std.specs.Prelude.{◌≡◌};
 ghost use Rattle.entry_model.specs.Trial.{IsTrial, ending_of};
 ghost use Rattle.entry_model.specs.Calls.{AreCallsIn};
@@ -7,8 +9,8 @@ use crate::lists::Receipts;
 use crate::receipt::Receipt;
 use crate::store::EntryStore;
 
-/// Makes calls on the entries of a store in turn, as long as the answers go on, with their receipts
-/// in place of what is in `receipts`. Gives back the receipt that ended the trial, or `None` where
+/// Makes calls on the entries of a store in turn, as long as the answers go on. Their receipts
+/// replace those in `receipts`. Gives back the receipt that ended the trial, or `None` where
 /// the answers went on to the last call.
 #[inline(always)]
 pub fn make_trial<S: EntryStore, C: CallList>(

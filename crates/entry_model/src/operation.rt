@@ -1,3 +1,5 @@
+//! The operations on one page table entry, their answers, and the tests of doubleword 0 that
+//! hypervisor calls demand.
 use authority_mask::Masks;
 use storage_prot::Want;
 

@@ -1,3 +1,5 @@
+//! The record that an operation leaves of its entry; by its type the answer is the one that the
+//! table of operations gives for the state before.
 ghost use Rattle.std.specs.Prelude.{◌≡◌};
 ghost use Rattle.entry_model.specs.Reply.{reply_of};
 

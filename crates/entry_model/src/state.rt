@@ -1,3 +1,5 @@
+//! The contents of a page table entry: its doublewords without R and C, these two bits, and the
+//! stamp that counts its changes.
 ghost use Rattle.std.specs.Prelude.{◌≡◌};
 
 use hpte_fields::{CHANGED, REFERENCED};
@@ -15,7 +17,7 @@ pub struct EntryState {
     pub dword0: u64,
     /// Doubleword 1, with R and C clear.
     pub dword1: u64,
-    /// How often the entry has changed, but for R and C that accesses set.
+    /// How often the entry has changed, except for R and C that accesses set.
     pub stamp: u32,
     /// V: the entry translates a page.
     pub valid: bool,

@@ -1,3 +1,5 @@
+//! The trait of all stores of page table entries: operations that leave receipts, accesses by
+//! cached translations, and the laws that hold of every store.
 ghost use Rattle.std.specs.Prelude.{IfSome, IfNone, ◌≡◌, ◌≤◌, ◌<◌, ◌^◌, ◌-◌, ◌++◌, [], ◌∷◌, List, ℕ};
 ghost use Rattle.hpte_fields.specs.TableSize.{IsTableOrder, entry_count};
 ghost use Rattle.entry_model.specs.declared.receipt.Receipt.{Receipt};
@@ -52,7 +54,7 @@ pub trait EntryStore {
     /// Between a moment and itself nothing was made.
     ghost made_none: { (s : Self) → made s s [] };
 
-    /// What was made in two stretches of time, one behind the other, was made in both together.
+    /// What was made in two stretches of time, one after the other, was made in both together.
     ghost made_more: { (first between last : Self) (early late : List Receipt)
         → made first between early
         → made between last late

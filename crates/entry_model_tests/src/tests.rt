@@ -1,3 +1,5 @@
+//! Single entries under each operation: their answers and next states, and the lists of receipts
+//! and of words.
 ghost use Rattle.std.specs.Prelude.{◌≡◌, bit_and};
 
 use authority_mask::Masks;

@@ -1,4 +1,4 @@
--- Two ranges that are not empty meet exactly where some address lies in both.
+-- Two ranges that are not empty meet exactly if some address lies in both.
 use Rattle.std.proofs.Common.{◌≡◌, ℕ, ◌+◌, ◌<◌, Bool, true, false, max, IsTrue, ◌↔◌, refl, sym, arith, length}
 use Rattle.std.proofs.lemmas.Bool.Decides.{nat_tests}
 use Rattle.frame_grants.specs.Ranges.{ShareAddress, ranges_meet}

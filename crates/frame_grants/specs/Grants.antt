@@ -15,13 +15,13 @@ use Rattle.frame_grants.specs.declared.grant.Kind.TheVariants.{Ram}
 abbrev pub most_grants : ℕ
 most_grants = 64
 
--- The grants beside the pool of page tables, which is a machine range of 2 ^ pool_order bytes.
+-- The grants, and the pool of page tables, which is a machine range of 2 ^ pool_order bytes.
 pub record GrantedMemory : Type 0 where
   pub pool_base : ℕ
   pub pool_order : ℕ
   pub grants : List Grant
 
--- No grant beside this pool.
+-- No grant, with this pool.
 abbrev pub no_grants : ℕ → ℕ → GrantedMemory
 no_grants pool_base pool_order = record {
   pool_base = pool_base;
@@ -134,7 +134,7 @@ pub record AreApart (granted : GrantedMemory) : Type 0 where
       AllPairs (λ (lower higher : Grant). meets_machine lower higher ≡ false) granted.grants
   pub off_pool : All (λ grant. meets_pool granted grant ≡ false) granted.grants
 
--- The pool is a range for page tables, and the grants stand apart beside it.
+-- The pool is a range for page tables, and the grants meet neither it nor each other.
 pub record IsSound (granted : GrantedMemory) : Type 0 where
   pub pool : IsPoolRange granted.pool_base granted.pool_order
   pub apart : AreApart granted

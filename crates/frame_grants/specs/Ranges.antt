@@ -1,4 +1,4 @@
--- Ranges of numbers, each by its start and its length.
+-- Ranges of numbers, each by its start and its length: when two meet, or one lies within the other.
 use Rattle.std.specs.Prelude.{ℕ, ◌+◌, ◌≤◌, ◌<◌, Bool, ◌&&◌, nat_lt, nat_le, length}
 
 -- A number that lies in a range.

@@ -1,3 +1,5 @@
+//! The refusals of a grant, in the order in which they are tried, each with its message.
+
 /// Why a grant is refused.
 #[derive(Clone, Copy, PartialEq, Eq, Debug, thiserror::Error)]
 pub enum GrantError {

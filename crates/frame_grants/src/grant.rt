@@ -1,10 +1,12 @@
+//! One grant: a range of logical addresses, the machine range that it is mapped to, and what is
+//! there.
 ghost use Rattle.std.specs.Prelude.{◌≡◌};
 ghost use Rattle.frame_grants.specs.Grants.{no_grant, is_aligned, ends_past, meets_machine, overlaps, holds};
 
 use crate::range::{ends_past_top, range_within, ranges_meet};
 use pool_range::PAGE_BYTES;
 
-/// What lies behind a grant.
+/// What a grant gives access to.
 #[derive(Clone, Copy, PartialEq, Eq, Debug)]
 pub enum Kind {
     /// Main storage.
@@ -13,7 +15,7 @@ pub enum Kind {
     Io,
 }
 
-/// A range of the guest's logical addresses and the machine range behind it, in bytes.
+/// A range of the guest's logical addresses and the machine range that it is mapped to, in bytes.
 #[derive(Clone, Copy, PartialEq, Eq, Debug)]
 pub struct Grant {
     /// The first logical address.
@@ -22,7 +24,7 @@ pub struct Grant {
     pub machine: u64,
     /// The length of both ranges.
     pub length: u64,
-    /// What lies behind the range.
+    /// What is in the machine range.
     pub kind: Kind,
 }
 

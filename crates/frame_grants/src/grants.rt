@@ -1,3 +1,5 @@
+//! The list of a guest's grants, in which none meets another or the pool of page tables, and the
+//! translation of logical ranges by it.
 ghost use Rattle.std.specs.Prelude.{◌≡◌, ◌+◌, ◌≤◌, ◌%◌, ◌^◌, true, Some, None, IfSome, find, count_by, length, MatchResult, OnOk, OnErr};
 ghost use Rattle.std.specs.List.{list_any};
 ghost use Rattle.pool_range.specs.Ranges.{IsPoolRange};
@@ -12,7 +14,7 @@ use std::marker::Model;
 /// How many grants there can be.
 pub const MOST_GRANTS: usize = 64;
 
-/// The memory that is granted to the guest, beside the machine range of the pool of page tables.
+/// The memory that is granted to the guest, and the pool of page tables that no grant may meet.
 #[derive(Drop)]
 pub struct Grants {
     pool_base: u64,
@@ -39,7 +41,7 @@ impl Model for Grants {
 }
 
 impl Grants {
-    /// No grant, beside a pool of `2^pool_order` bytes from `pool_base`.
+    /// No grant, with a pool of `2^pool_order` bytes from `pool_base`.
     pub fn new(pool_base: u64, pool_order: u8) -> Grants
         requires { IsPoolRange pool_base pool_order }
         ensures { result ≡ no_grants pool_base pool_order }

@@ -3,6 +3,9 @@
 //! A guest names memory by logical addresses. The hypervisor grants it ranges of these, each with a
 //! machine range of the same length. A page of the guest's page table must lie wholly within one
 //! grant.
+//!
+//! Main contracts: `add` refuses for six causes in order; `list`: no grant overlaps another or the
+//! pool; `machine_of`: the machine address, by the grant that has the range.
 #![tactic(auto)]
 
 mod error;

@@ -1,3 +1,4 @@
+//! Comparisons of address ranges by their starts and lengths.
 ghost use Rattle.std.specs.Prelude.{◌≡◌, ◌+◌, ◌^◌, ◌<◌, ◌↔◌, IsTrue, nat_lt};
 ghost use Rattle.frame_grants.specs.Ranges.{ShareAddress, ranges_meet, range_within};
 ghost use Rattle.pool_range.specs.Ranges.{address_end};

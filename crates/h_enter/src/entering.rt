@@ -1,3 +1,5 @@
+//! H_ENTER with and without its checks: each makes a plan of `call_plan`, runs it on the store, and
+//! gives the whole reply.
 ghost use Rattle.std.specs.Prelude.{◌≡◌, ◌<◌, Some};
 ghost use Rattle.entry_model.specs.Trial.{IsReplyOf};
 ghost use Rattle.hpte_fields.specs.TableSize.{entry_count};

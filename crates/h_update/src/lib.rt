@@ -1,6 +1,8 @@
 //! The hypervisor calls of LoPAR that read and change entries: H_REMOVE, H_PROTECT, H_READ,
 //! H_CLEAR_REF, H_CLEAR_MOD and H_BULK_REMOVE, over any store of page table entries. What a call
 //! tries, and what it answers, is its plan (`call_plan`).
+//!
+//! Main contracts: each is the reply that its receipts give, by its plan.
 #![tactic(auto)]
 
 mod bulk;

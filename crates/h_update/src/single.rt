@@ -1,3 +1,5 @@
+//! The calls on one entry, or on four neighbours for H_READ: each runs its plan (`call_plan`) on
+//! the store, and gives the whole reply.
 ghost use Rattle.entry_model.specs.Trial.{IsReplyOf};
 ghost use Rattle.call_plan.specs.Single as plans;
 

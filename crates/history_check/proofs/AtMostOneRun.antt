@@ -20,7 +20,7 @@ use Rattle.history_check.proofs.GoodStores.{Parts, parts_of, AllGood, next_store
 use Rattle.history_check.proofs.OneSection.{Twice, first, second, ones, twos, Shown, Plain, AllSame, stores_same}
 
 -- ---- all sections
--- The lines before the first quiet line; and each quiet line with the lines behind it. All have two
+-- The lines before the first quiet line; and each quiet line with the lines after it. All have two
 -- replies.
 abbrev pub cut_twice : List Twice → List Twice × List (Twice × List Twice)
 cut_twice [] = ([], [])
@@ -28,11 +28,11 @@ cut_twice (p ∷ ps) =
     if is_quiet p.line.act then ([], (p, (cut_twice ps).0) ∷ (cut_twice ps).1) else
     (p ∷ (cut_twice ps).0, (cut_twice ps).1)
 
--- Each quiet line and the lines behind it, with the first of their two replies.
+-- Each quiet line and the lines after it, with the first of their two replies.
 abbrev pub rest_ones : List (Twice × List Twice) → List (RepliedLine × List RepliedLine)
 rest_ones qs = map (λ q. (first q.0, ones q.1)) qs
 
--- Each quiet line and the lines behind it, with the second of their two replies.
+-- Each quiet line and the lines after it, with the second of their two replies.
 abbrev pub rest_twos : List (Twice × List Twice) → List (RepliedLine × List RepliedLine)
 rest_twos qs = map (λ q. (second q.0, twos q.1)) qs
 

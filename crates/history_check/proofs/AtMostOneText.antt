@@ -90,7 +90,7 @@ cpus_ones :
 cpus_ones n [] h = (tt, tt)
 cpus_ones n (p ∷ ps) h = let rest = cpus_ones n ps h.1 in ((h.0, rest.0), (h.0, rest.1))
 
--- A section that two runs tell alike is one section, and they go on alike.
+-- A section that two runs show alike is one section, and they go on alike.
 pub section_told :
     (s : AllStores) (ps : List Twice) (x y : List ℕ)
     → ArePlainStores s

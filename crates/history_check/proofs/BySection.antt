@@ -31,7 +31,7 @@ Explains w ls x rest =
     × AllGood w (cut (lines_with_replies ls rs)).0 (cut (lines_with_replies ls rs)).1
     × (x ≡ text_from ls rs ++ rest)
 
--- The whole text is that of a good run, but for the rest.
+-- The text of a good run, and then the rest.
 pub good_explained :
     (t : AcceptedTrace) (rs : List Reply) (text rest : List ℕ)
     → IsGoodRun t rs
@@ -50,11 +50,11 @@ pub explained_begins :
     → BeginsGood (trace_to k t) text
 explained_begins k t text rest h = (h.0, rest, good_parts (trace_to k t) h.0 h.1 h.2, h.3)
 
--- The stores behind a section and its quiet line, and the reply to that.
+-- The stores after a section and its quiet line, and the reply to that.
 abbrev pub next_run : AllStores → List TraceLine → List Reply → TraceLine → AllStores
 next_run w ms rs l = next_stores w (lines_with_replies ms rs) l.act
 
--- The reply to a quiet line behind a section of these lines with these replies.
+-- The reply to a quiet line after a section of these lines with these replies.
 abbrev pub next_reply : AllStores → List TraceLine → List Reply → TraceLine → Reply
 next_reply w ms rs l = quiet_reply w (lines_with_replies ms rs) l.act
 
@@ -120,7 +120,7 @@ first_text (m ∷ ms) l ns (a ∷ fs) r bs rest h =
 
 -- ---- replies
 -- Replies to several lines, parted at the line l: those to the lines before it, the one to it, and
--- those to the lines behind it, each of its line's kind.
+-- those to the lines after it, each of its line's kind.
 pub record SplitReplies (ms : List TraceLine) (l : TraceLine) (ns : List TraceLine)
     (rs : List Reply) :
     Type 0 where
@@ -261,7 +261,7 @@ found_once w ms x rs qs y z plain ns cpus g k =
       subst (λ ts. ArePlainStores (stores_behind w ts)) (sym e1) told.2,
     )
 
--- What explains the text behind a section that was found explains the whole, and the other way
+-- What explains the text after a section that was found explains the whole, and the other way
 -- round.
 pub behind_found :
     (w : AllStores) (ms : List TraceLine) (l : TraceLine) (ns : List TraceLine) (x : List ℕ)

@@ -38,8 +38,8 @@ use Rattle.history_check.proofs.Alike.{is_store_access}
 use Rattle.call_plan.proofs.RemovalCalls.{calls_few, pairs_few}
 
 -- ---- what is kept
--- The operation is a store or none, and however it is answered, what is kept of it is what is told
--- of that answer.
+-- The operation is a store or none, and however it is answered, what is kept of it is what is
+-- stated for that answer.
 pub record Keeps (store : Bool) (told : Answer → Op) (op : Op) : Type 0 where
   pub stores : is_store_access (step_op op) ≡ store
   pub each :
@@ -47,7 +47,7 @@ pub record Keeps (store : Bool) (told : Answer → Op) (op : Op) : Type 0 where
       → unless_worn (reply_of s op).0 (step_op op)
       ≡ unless_worn (reply_of s op).0 (told (reply_of s op).0)
 
--- What is kept of each operation of these calls, however it is answered, is what is told of the
+-- What is kept of each operation of these calls, however it is answered, is what is stated for the
 -- answer.
 abbrev pub AllKeep : Bool → (Answer → Op) → List Call → Type 0
 AllKeep store told cs = AllByRecursion (λ (c : Call). Keeps store told c.op) cs

@@ -21,7 +21,7 @@ replies_to (suc k) [] rs = []
 replies_to (suc k) (l ∷ ls) [] = []
 replies_to (suc k) (l ∷ ls) (r ∷ rs) = r ∷ replies_to (if is_quiet l.act then k else suc k) ls rs
 
--- A list of lines with its replies is cut behind a quiet line.
+-- A list of lines with its replies is cut after a quiet line.
 record IsCut (ls : List TraceLine) (rs : List Reply) (ms : List TraceLine) (qs : List Reply) :
     Type 0 where
   pub lines : List TraceLine

@@ -1,4 +1,4 @@
--- What a search for a line's end tells.
+-- What a search for a line's end gives.
 use Rattle.std.specs.Prelude.{◌==◌}
 use Rattle.std.proofs.Common.{◌≡◌, ℕ, suc, ◌+◌, ◌-◌, ◌<◌, List, [], ◌∷◌, ◌++◌, true, false, refl, ap, sym, ◌∙◌, ◌⊎◌, inl, inr, length, length-drop, take, drop, get_or, arith, Some, None}
 use Rattle.std.proofs.lemmas.Bool.{cases_Bool, eqb-true}
@@ -32,7 +32,7 @@ first_lacks c i text first =
     first.0.before k (omega arith) below
     (ap (λ z. z == c) (sym (get_or-take i text k 0 below)) ∙ own))
 
--- The text is what stands before, the byte, and what stands behind.
+-- The text is what is before, the byte, and what is after.
 pub first_parts :
     (c i : ℕ) (text : List ℕ)
     → IsFirstByte (is_byte c) text (Some i)

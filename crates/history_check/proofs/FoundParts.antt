@@ -65,7 +65,7 @@ found_plain ls rs plain k =
     plain_replies (lines_with_replies ls rs) (subst NoneQuiet (sym (lines_are ls rs k)) plain)
     (kinds_each ls rs k)
 
--- ---- the stores behind a section
+-- ---- the stores after a section
 -- A list whose elements are images of those of another is its image.
 same_lists :
     {A B : Type 0} (f : A → B) (xs : List A) (ys : List B)
@@ -86,7 +86,7 @@ same_lists f (x ∷ xs) (y ∷ ys) size h =
     (λ k a b low at at'. h (suc k) a b (omega (arith, low)) at at') in
     λ i. first i ∷ rest i
 
--- Where each store is as behind its lines, all are.
+-- Where each store is as its lines leave it, all are.
 pub behind_is :
     (s later : AllStores) (ts : List RepliedLine)
     → windows_in later.windows ≡ windows_of s

@@ -14,7 +14,7 @@ all_made rs = map (λ (r : Receipt). made r) rs
 
 -- ---- one event
 
--- ---- events one behind the other
+-- ---- events one after the other
 pub leads_on :
     (f g h : Fronts) (xs ys : List Event) → LeadsTo f xs g → LeadsTo g ys h → LeadsTo f (xs ++ ys) h
 leads_on f g h xs ys a b = record {

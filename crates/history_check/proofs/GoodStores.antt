@@ -32,11 +32,11 @@ use Rattle.history_check.specs.FoundSection.{Opening, opening_of, IsGoodOn}
 use Rattle.history_check.specs.FoundStores.{windows_of, lines_at, AreGoodOn, stores_behind, run_quiet_on}
 
 -- ---- parts
--- The lines of a run before its first quiet line, and each quiet line with those behind it.
+-- The lines of a run before its first quiet line, and each quiet line with those after it.
 abbrev pub Parts : Type 0
 Parts = List RepliedLine × List QuietPart
 
--- What the run carries behind these lines and the quiet line that follows them.
+-- What the run carries after these lines and the quiet line that follows them.
 abbrev pub next_stores : AllStores → List RepliedLine → Act → AllStores
 next_stores s ts act = (run_quiet_on (stores_behind s ts) act).1
 
@@ -118,7 +118,7 @@ each_size s (suc k) low =
     ∙ length-replicate (length s.table.processors) new_processor
 
 -- ---- a section of one store
--- A window behind its lines.
+-- A window as its lines leave it.
 pub window_end :
     (table : Store) (ts : List RepliedLine) (v : WindowState)
     → section_end (as_store table v) (lines_on (is_on_window v.window) ts)
@@ -190,7 +190,7 @@ module _ (s : AllStores) (ts : List RepliedLine) where
       from_part (store_at s number) (on (store_at s number)) None
       (g number (omega (arith, low, stores_count s))) tt)
 
-  -- A quiet line behind the section, which is on the page table.
+  -- A quiet line after the section, which is on the page table.
   module _ (q : RepliedLine) (named : s.table.window ≡ None) (quiet : is_quiet q.line.act ≡ true)
     where
       abbrev quiet_at : Store → Option RepliedLine
@@ -204,7 +204,7 @@ module _ (s : AllStores) (ts : List RepliedLine) where
       away : (v : WindowState) → quiet_on (is_on_window v.window) q ≡ None
       away v = rw (quiet_off_window v.window q.line.act quiet) refl
 
-      -- It has the reply that the store gives behind its lines, if it is on it.
+      -- It has the reply that the store gives after its lines, if it is on it.
       abbrev IsSaid : Store → Option RepliedLine → Type 0
       IsSaid x o = IfSome o (λ z. z.reply ≡ (run_quiet_line (section_end x (on x)) z.line.act).0)
 

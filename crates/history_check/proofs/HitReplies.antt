@@ -1,4 +1,4 @@
--- The reply to an access by a cached line, on the state that its one operation found.
+-- The reply to an access by a cached translation, on the state that its one operation found.
 use Rattle.std.proofs.Common.{◌≡◌, List, [], ◌∷◌, ap, sym, ◌∙◌, refl, subst, Some, length, get_or, arith}
 use Rattle.entry_model.specs.State.{State}
 use Rattle.entry_model.specs.declared.line.Line.{Line}
@@ -71,7 +71,7 @@ one_hit set seg a line op s r outcome q (x ∷ []) asked h mine by e k before =
     k.outcome in
     λ i. record { outcome = end i; by = sym by i; receipts = all i }
 
--- What `hit_end` owes where it tells an end.
+-- What `hit_end` owes where it gives an end.
 pub hit_told :
     (set : AccessContext) (seg : Segment) (a : Request) (line : Line) (op : Op) (s : State)
     (ss : List State) (r : Receipt) (outcome : Outcome)

@@ -61,7 +61,7 @@ within_text (Ok (Some n)) o lines text states processors h = h.0
 within_text (Ok None) o lines text states processors h = tt
 within_text (Err e) o lines text states processors h = tt
 
--- ---- a section that is told by whether it is found
+-- ---- a section, by whether it is found
 pub told_at :
     (o o' : Opening) (ls ls' : List TraceLine) (text text' : List ℕ) (found : Option ℕ)
     (states : List State) (processors : List Processor)

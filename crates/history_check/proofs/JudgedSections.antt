@@ -117,7 +117,7 @@ bad_next t text k b few none = (
 )
 
 -- ---- where the loop stands
--- Behind k quiet lines the judge's loop has these stores, lines and text before it: what explains
+-- After k quiet lines the judge's loop has these stores, lines and text before it: what explains
 -- them explains the text from its start, and stores and lines keep their limits.
 pub record AtSection (t : AcceptedTrace) (text : List ℕ) (k : ℕ) (w : AllStores)
     (ns : List TraceLine) (y : List ℕ) :

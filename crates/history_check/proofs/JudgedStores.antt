@@ -185,7 +185,7 @@ unless_window s ls text None at v o states processors inside is same h =
     (subst (λ z. HasNoSection z ls text) same h))
 
 -- ---- all stores
--- The lines have good replies on all stores, which are so behind them.
+-- The lines have good replies on all stores, which are then as their lines leave them.
 abbrev Leaves : AllStores → AllStores → List TraceLine → List ℕ → List ℕ → Type 0
 Leaves s new ls text rest =
     (rs : List Reply)

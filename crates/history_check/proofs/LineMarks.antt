@@ -70,7 +70,7 @@ head_front number cpu name f =
     (plain_front _ refl refl)) (decimal_front cpu)) (plain_front _ refl refl)) f
 
 -- ---- a line
--- The text is one line, with the receipts behind a front.
+-- The text is one line, with the receipts after a front.
 pub record IsLine (l : TraceLine) (r : Reply) : Type 0 where
   pub front : List ℕ
   pub is_front : IsFront front

@@ -61,7 +61,7 @@ one_placed r act store same = λ i. record {
   step = record { entry = r.entry; op = same i; answer = r.answer };
 }
 
--- The calls keep what the line tells.
+-- The calls keep what is stated for the line.
 abbrev CallsKeep : Act → List Call → Type 0
 CallsKeep act cs = AllKeep (is_store_act act) (act_op act) cs
 

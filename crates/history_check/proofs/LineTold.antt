@@ -1,4 +1,4 @@
--- What the judge owes of a line, by what is told of its processor and that processor's fronts.
+-- What the judge owes of a line, by what is said of its processor and that processor's fronts.
 use Rattle.std.proofs.Common.{◌≡◌, ℕ, ◌<◌, List, ◌++◌, ap, sym, ◌∙◌, subst, length, get_or, set, Option, Some, None}
 use Rattle.std.proofs.lemmas.List.{get_or_default}
 use Rattle.tlb_model.specs.Processor.{Processor, new_processor}

@@ -1,4 +1,4 @@
--- A line has one reply that stands on given states and whose text a given one begins with.
+-- A line has at most one reply by given states with whose text a given text begins.
 use Rattle.std.specs.Prelude.{IfSome}
 use Rattle.std.specs.List.{AllByRecursion}
 use Rattle.std.proofs.Common.{◌≡◌, ℕ, ◌<◌, false, List, [], ◌∷◌, ◌++◌, ap, sym, ◌∙◌, map, drop, subst, Option}
@@ -81,7 +81,7 @@ pub line_finds :
 line_finds context p act r is = access_finds_page (access_of context) p act r is.access
 
 -- ---- where the one reply doesn't stand, none does
--- the cached line that was gone hasn't left its stamp
+-- the cached translation that was gone hasn't left its stamp
 pub left_not :
     (context : StoreContext) (closing : List State) (p : Processor) (l : TraceLine)
     (found : List State) (given : List ℕ) (r : Reply) (n : ℕ) (g : Option Line)

@@ -93,7 +93,7 @@ end_of (c ∷ text) = at (cases_Bool (c == 10)) (end_of text) where
         cut = ap (λ z. c ∷ z) e.cut;
       })
 
--- ---- behind so many lines
+-- ---- after so many lines
 pub one_behind :
     (n : ℕ) (text : List ℕ) → behind_lines (n + 1) text ≡ behind_told (behind_lines n text)
 one_behind zero text = refl
@@ -137,7 +137,7 @@ behind_drops n text =
           ∙ dropped f.front (behind_lines n text),
     )
 
--- The text is cut behind its first line's end.
+-- The text is cut after its first line's end.
 pub cut_here :
     (told others text : List ℕ)
     → lacks 10 told ≡ true
@@ -157,7 +157,7 @@ cut_here told others text none is =
           ∙ sym (ap behind_told is ∙ k.1),
     )
 
--- ---- what lines tell
+-- ---- what lines show
 -- Where the test passes a line, its reply is the next line of text.
 abbrev pub Tell : (Act → Bool) → List RepliedLine → List ℕ → Type 0
 Tell f [] text = Unit {0}

@@ -15,7 +15,7 @@ use Rattle.history_check.specs.FoundSection.{opening_of}
 use Rattle.history_check.specs.FoundStores.{AreGoodOn}
 use Rattle.history_check.proofs.GoodStores.{Parts, AllGood, next_stores, store_empty, parts_good, good_parts}
 
--- A run that is cut, with these further quiet lines, and the lines behind each, at its end.
+-- A run that is cut, with these further quiet lines, and the lines after each, at its end.
 abbrev pub with_rest : Parts → List QuietPart → Parts
 with_rest x zs = (x.0, x.1 ++ zs)
 
@@ -29,7 +29,7 @@ front_rest t x zs = at (cases_Bool (is_quiet t.line.act)) where
   at (inl q) = rw q refl
   at (inr q) = rw q refl
 
--- the cut behind a quiet line
+-- the cut after a quiet line
 pub cut_at :
     (xs : List RepliedLine) (q : RepliedLine) (ys : List RepliedLine)
     → is_quiet q.line.act ≡ true
@@ -61,7 +61,7 @@ replies_front [] l ms (x ∷ rs) r qs h k = absurd h
 replies_front (x ∷ ls) l ms [] r qs h k = absurd h
 replies_front (x ∷ ls) l ms (y ∷ rs) r qs h k = (k.0, replies_front ls l ms rs r qs h.1 k.1)
 
--- The trace with these lines in place of its own.
+-- The trace with these lines instead of its own.
 abbrev pub with_lines : AcceptedTrace → List TraceLine → AcceptedTrace
 with_lines t lines = record t { lines = lines }
 

@@ -28,7 +28,7 @@ use Rattle.history_check.proofs.LineMarks.{IsLine, line_of}
 use Rattle.history_check.proofs.MarkedSteps.{AreOf, steps_more, mark_count, lines_numbered, lines_within, section_within}
 
 -- ---- what was read
--- What is left of replies to the lines, behind those whose marks were read.
+-- What is left of replies to the lines, after those whose marks were read.
 pub record AreLeft (context : StoreContext) (more : List TraceLine) (rest : List ℕ)
     (read : List (List Mark)) (rs : List Reply) (end : List ℕ) :
     Type 0 where

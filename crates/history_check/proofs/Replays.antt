@@ -35,10 +35,10 @@ use Rattle.call_plan.proofs.Tame.{h_bulk_remove_each}
 use Rattle.run_model.specs.StoreContexts.{StoreContext}
 use Rattle.run_model.specs.LineReplies.{put_plan, get_plan, hcall_plan, IsDeviceLine}
 use Rattle.entry_model.proofs.Replied.{Replied, replied, left, changed, accessed}
-use Rattle.history_check.specs.Replay.{before_each, next_state, ReplayState, after_receipt, IsReplayed}
+use Rattle.history_check.specs.Replay.{before_each, found_state, ReplayState, after_receipt, IsReplayed}
 
 -- ---- trials
--- No call goes on behind an answer that used a translation.
+-- No call goes on after an answer that used a translation.
 abbrev pub StopsAtDecided : (Answer → Bool) → List Call → Type 0
 StopsAtDecided goes cs =
     AllByRecursion
@@ -78,7 +78,7 @@ replayed_trial goes [] a b (x ∷ xs) ys stops fresh given g h k = absurd h
 replayed_trial goes (c ∷ cs) a b [] ys stops fresh given g h k = absurd h
 replayed_trial goes (c ∷ cs) a b (x ∷ xs) [] stops fresh given g h k = absurd k
 replayed_trial goes (c ∷ cs) a b (x ∷ xs) (y ∷ ys) stops fresh given g h k =
-    let before : x.before ≡ y.before = g.0 fresh ∙ ap (λ l. next_state l x.op) given in
+    let before : x.before ≡ y.before = g.0 fresh ∙ ap (λ l. found_state l x.op) given in
     let head : x ≡ y = same x y.entry y.before y.op (h.0.entry ∙ sym k.0.entry) before
     (h.0.op ∙ sym k.0.op) ∙ sym (exact y) in
     let told : x.answer ≡ (reply_of x.before c.op).0 = x.lawful ∙ ap (λ o. (reply_of x.before o).0)
@@ -114,7 +114,7 @@ replayed_before goes (c ∷ cs) a b [] ss stops fresh given g h size = absurd h
 replayed_before goes (c ∷ cs) a b (r ∷ rs) [] stops fresh given g h size =
     absurd (omega (arith, size))
 replayed_before goes (c ∷ cs) a b (r ∷ rs) (s ∷ ss) stops fresh given g h size =
-    let before : r.before ≡ s = g.0 fresh ∙ ap (λ l. next_state l r.op) given in
+    let before : r.before ≡ s = g.0 fresh ∙ ap (λ l. found_state l r.op) given in
     let told : r.answer ≡ (reply_of r.before c.op).0 = r.lawful ∙ ap (λ o. (reply_of r.before o).0)
     h.0.op in
     let next : (after_receipt a r).states ≡ ss = ap (λ (l : List State). drop 1 l) given in

@@ -17,7 +17,7 @@ use Rattle.history_check.specs.LineReply.{StandsOn, HasReply}
 use Rattle.history_check.specs.JudgedLines.{Judged, judged, AreReplied, TellsLine, TellsLines}
 use Rattle.history_check.proofs.SectionSteps.{IsLeft, more_on, more_back, first_order}
 
--- ---- the text behind the replies
+-- ---- the text after the replies
 pub text_first : (given : List ℕ) → given ≡ drop (length given - length given) given
 text_first given =
     ap (λ n. drop n given) (let e : 0 ≡ length given - length given = omega arith in e)
@@ -135,7 +135,7 @@ abbrev pub Left :
 Left context closing ls ns i found states ps qs F G given text =
     IsLeft context closing ls (drop i ls) ns (drop i ns) found states ps qs F G given text
 
--- What is told of a line.
+-- What is said of a line.
 abbrev pub Told :
     StoreContext
     → List State

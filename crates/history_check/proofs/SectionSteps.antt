@@ -19,7 +19,7 @@ use Rattle.history_check.specs.JudgedLines.{AllStand, AllInOrder, judged, AreRep
 use Rattle.history_check.proofs.OneReply.{one_reply}
 
 -- ---- fronts
--- the events of a line, and of those behind it
+-- the events of a line, and of those after it
 order_on :
     (F G : ℕ → ℕ → ℕ) (ps : List Processor) (t : RepliedLine) (ts : List RepliedLine)
     → t.line.cpu < length ps

@@ -1,4 +1,4 @@
--- What a section's function owes, by what its parts tell.
+-- What a section's function owes, by what its parts show.
 use Rattle.std.proofs.Common.{map, ◌≡◌, ℕ, ◌+◌, ◌<◌, ◌≤◌, ◌^◌, List, [], ◌∷◌, ◌++◌, ap, sym, ◌∙◌, refl, subst, take, drop, get_or, length, Option, Some, None}
 use Rattle.std.proofs.lemmas.List.{take_more}
 use Rattle.entry_model.specs.State.{State}
@@ -19,7 +19,7 @@ use Rattle.history_check.proofs.Short.{LowStates}
 use Rattle.history_check.proofs.WholeSection.{told_section, no_marks, no_replies}
 use Rattle.hpte_fields.specs.TableSize.{entry_count, greatest_order}
 
--- ---- what the parts tell of one opening
+-- ---- what the parts show of one opening
 -- What is asked of the opening.
 pub record IsOpening (o : Opening) (ls : List TraceLine) : Type 0 where
   pub plain : NoneQuiet ls
@@ -92,7 +92,7 @@ pub marks_has_not :
     → HasNoSection o ls given
 marks_has_not o ls given is none = no_marks o ls given is.plain is.cpus is.few is.low none
 
--- ---- as `judge_lines` tells it
+-- ---- as `judge_lines` states it
 -- with the opening's pairs, the closing states and the states found as the code has them
 abbrev Judges :
     Opening

@@ -20,7 +20,7 @@ use Rattle.history_check.proofs.NextStates.{step_next}
 abbrev NotBefore : Receipt → List Receipt → Type 0
 NotBefore x ys = AllByRecursion (λ (y : Receipt). place x ≤ place y) ys
 
--- Each receipt's place is at most that of each receipt behind it.
+-- Each receipt's place is at most that of each receipt after it.
 abbrev pub Ascending : List Receipt → Type 0
 Ascending [] = Unit {0}
 Ascending (x ∷ xs) = NotBefore x xs × Ascending xs

@@ -1,4 +1,4 @@
--- In a good run entries and stamps are numbers that a text tells.
+-- In a good run entries and stamps are numbers that a text can show.
 use Rattle.std.proofs.Common.{◌≡◌, ℕ, ◌<◌, ◌≤◌, ◌-◌, ◌^◌, List, [], ◌∷◌, sym, ◌∙◌, subst, length, arith, Option, Some, None}
 use Rattle.std.specs.Prelude.{slice_index, IfSome}
 use Rattle.std.specs.List.{AllByRecursion, range_with_len}

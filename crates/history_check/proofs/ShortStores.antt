@@ -1,4 +1,4 @@
--- In a good run entries and stamps of all stores are numbers that a text tells.
+-- In a good run entries and stamps of all stores are numbers that a text can show.
 use Rattle.std.specs.Prelude.{None}
 use Rattle.std.proofs.Common.{◌≡◌, ℕ, zero, suc, ◌<◌, ◌≤◌, List, [], ◌∷◌, ap, sym, ◌∙◌, refl, subst, length, map, get_or, arith}
 use Rattle.std.specs.List.{AllByRecursion}

@@ -108,7 +108,7 @@ set_own [] i x at low = absurd (omega arith)
 set_own (y ∷ ys) zero x at low = ap (λ z. z ∷ ys) at
 set_own (y ∷ ys) (suc i) x at low = ap (λ l. y ∷ l) (set_own ys i x at (omega arith))
 
--- the next step, where its answer tells of no change
+-- the next step, where its answer shows no change
 pub step_kept :
     (ls : List TraceLine) (a : List State) (order : List LineStep) (i : ℕ)
     (states found : List State) (d : LineStep) (s : State)

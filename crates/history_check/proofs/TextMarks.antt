@@ -32,7 +32,7 @@ use Rattle.receipt_text.proofs.Bytes.{lacks_append, lacks_back, cut_at, IsNoDigi
 use Rattle.authority_mask.specs.declared.masks.MaskName.TheVariants as masks
 
 -- ---- one receipt
--- Entry and stamp are numbers that a text tells.
+-- Entry and stamp are numbers that a text can show.
 pub record IsShort (r : Receipt) : Type 0 where
   pub entry : r.entry < 2 ^ 32
   pub stamp : r.before.stamp < 2 ^ 32

@@ -1,4 +1,4 @@
--- A section, from what its parts tell of it.
+-- A section, from what its parts show of it.
 use Rattle.std.specs.List.{AllByRecursion}
 use Rattle.std.proofs.Common.{◌≡◌, ℕ, ◌+◌, ◌<◌, ◌≤◌, List, [], ◌∷◌, ◌++◌, ap, sym, ◌∙◌, refl, subst, map, take, drop, length, arith}
 use Rattle.std.proofs.lemmas.List.{length-map, length-append, take-append-drop}
@@ -174,8 +174,8 @@ just_access context closing ps [] h = tt
 just_access context closing ps (t ∷ ts) h =
     (h.0.reply, just_access context closing (processors_after ps t) ts h.1)
 
--- ---- what the parts tell
--- The steps that were read, the states that they find, and the replies that stand on these.
+-- ---- what the parts show
+-- The steps that were read, the states that they find, and the good replies by these.
 pub record Told (o : Opening) (ls : List TraceLine) (given : List ℕ) (n : ℕ) (closing : List State)
     (later : List Processor) :
     Type 0 where
@@ -257,7 +257,7 @@ told_section o ls given n closing later plain on h =
     }
 
 -- ---- a section that isn't
--- the lines of a good section stand on the states before its receipts
+-- the replies of a good section are good by the states before its receipts
 good_stand :
     (context : StoreContext) (closing : List State) (ps : List Processor) (ls : List TraceLine)
     (rs : List Reply)
@@ -328,7 +328,7 @@ short_shows context ps (l ∷ ls) (r ∷ rs) plain kinds short calls accesses = 
       kinds.1 short.1 calls.1 accesses.1,
 )
 
--- What holds of each good section of a store, whatever the parts tell.
+-- What holds of each good section of a store, whatever the parts show.
 record Good (o : Opening) (ls : List TraceLine) (given : List ℕ) (rs : List Reply) (rest : List ℕ) :
     Type 0 where
   pub cpus : Cpus (length o.processors) (lines_with_replies ls rs)

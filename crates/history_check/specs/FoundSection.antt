@@ -1,4 +1,4 @@
--- One section of a run, found where a text begins.
+-- A section on one store, and good replies to its lines with whose text a given text begins.
 use Rattle.std.specs.Prelude.{◌≡◌, ℕ, ◌≤◌, Option, Some, None, List, [], ◌∷◌, ◌++◌, drop, length}
 use Rattle.entry_model.specs.State.{State}
 use Rattle.tlb_model.specs.Processor.{Processor}
@@ -60,8 +60,8 @@ IsGoodPart s = IsGoodTo s (closing_of s)
 abbrev pub IsGoodOn : Opening → List RepliedLine → Type 0
 IsGoodOn o ts = IsGoodPart (section_on o ts)
 
--- With these replies the lines are good, in the sense given, and their text stands first in the
--- given one, before the rest.
+-- With these replies the lines are good, in the sense given, and the given text is their text and
+-- then the rest.
 pub record AreFoundGood
     (Good : List RepliedLine → Type 0)
     (ls : List TraceLine)
@@ -78,8 +78,8 @@ pub record AreFoundGood
 abbrev pub IsFound : Opening → List TraceLine → List ℕ → List Reply → List ℕ → Type 0
 IsFound o = AreFoundGood (IsGoodOn o)
 
--- The lines have good replies, whose text is what stands before the last part of the text; the
--- section closes on these states and processors.
+-- The lines have good replies, whose text is the first n bytes of the given one; the section closes
+-- on these states and processors.
 pub record HasSection
     (o : Opening)
     (ls : List TraceLine)
@@ -99,7 +99,7 @@ pub record HasSection
 abbrev pub HasNoSection : Opening → List TraceLine → List ℕ → Type 0
 HasNoSection o ls text = (rs : List Reply) (rest : List ℕ) → IsFound o ls text rs rest → ⊥
 
--- What is told of a section: with a number, that it is found, with so many bytes of the text, and
+-- What is said of a section: with a number, that it is found, with so many bytes of the text, and
 -- what it leaves; with none, that it is not.
 abbrev pub TellsSection :
     Opening → List TraceLine → List ℕ → Option ℕ → List State → List Processor → Type 0

@@ -28,7 +28,7 @@ AreGoodOn s ts =
     → number ≤ length s.windows
     → IsGoodOn (opening_of (store_at s number)) (lines_at s number ts)
 
--- What the run carries behind the section: each store is as behind its lines.
+-- What the run carries after the section: each store is as its lines leave it.
 abbrev pub stores_behind : AllStores → List RepliedLine → AllStores
 stores_behind s ts = record {
   table = section_end s.table (lines_at s 0 ts);

@@ -40,7 +40,7 @@ pub record SetsFront (old new : Fronts) (entry front : ℕ) : Type 0 where
 
 -- ---- events
 
--- Events lead from fronts to fronts: what comes behind them is in order from the second where, with
+-- Events lead from fronts to fronts: what comes after them is in order from the second where, with
 -- the events before it, it is from the first.
 pub record LeadsTo (first : ℕ → ℕ) (events : List Event) (second : ℕ → ℕ) : Type 0 where
   pub with_events :
@@ -52,7 +52,7 @@ pub record LeadsTo (first : ℕ → ℕ) (events : List Event) (second : ℕ →
       → InOrder e (first e) (events ++ later)
       → InOrder e (second e) later
 
--- From these fronts the events are not in order on each entry, whatever comes behind them.
+-- From these fronts the events are not in order on each entry, whatever comes after them.
 abbrev pub LeadsNowhere : (ℕ → ℕ) → List Event → Type 0
 LeadsNowhere first events =
     (later : List Event) → ((e : ℕ) → InOrder e (first e) (events ++ later)) → ⊥

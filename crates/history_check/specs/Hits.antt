@@ -1,4 +1,4 @@
--- Accesses by a cached line.
+-- The receipt of an access by a cached translation that is current and that the entry decides.
 use Rattle.std.specs.Prelude.{◌≡◌, ◌==◌, ◌&&◌, Bool, true}
 use Rattle.entry_model.specs.State.{State}
 use Rattle.entry_model.specs.declared.operation.Op.{Op}

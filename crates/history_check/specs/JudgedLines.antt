@@ -13,8 +13,8 @@ use Rattle.history_check.specs.FoundSection.{lines_text}
 use Rattle.history_check.specs.FrontKeeping.{LeadsTo, AllLeadTo}
 use Rattle.history_check.specs.LineReply.{StandsOn, HasReply}
 
--- There is one reply for each line, which stands on as many of the states found as the line's count
--- says; none is left over.
+-- There is one reply for each line, by as many of the states found as the line's count says; none
+-- is left over.
 abbrev pub AllStand :
     StoreContext
     → List State
@@ -81,8 +81,8 @@ pub record AreReplied
     pub text : given ≡ lines_text (lines_with_replies j.lines rs) ++ rest
     pub behind : later ≡ processors_behind ps (lines_with_replies j.lines rs)
 
--- What is told of the lines: with a number, that they have replies, with so many bytes of the
--- text, and what processors they leave; with none, that no replies stand.
+-- What is said of the lines: with a number, that they have replies, with so many bytes of the text,
+-- and what processors they leave; with none, that no replies stand.
 abbrev pub TellsLines :
     Judged
     → List Processor
@@ -113,7 +113,7 @@ pub record JudgedLine : Type 0 where
 abbrev pub replied : JudgedLine → Reply → RepliedLine
 replied j r = record { line = j.line; reply = r }
 
--- No reply stands on this processor, from this front on.
+-- There is no good reply of this processor, from this front on.
 abbrev pub HasNoReply : JudgedLine → Processor → (ℕ → ℕ) → Type 0
 HasNoReply j p front =
     (r : Reply) (rest : List ℕ) (others : List Event)
@@ -122,7 +122,7 @@ HasNoReply j p front =
     → ((e : ℕ) → InOrder e (front e) (events_in p (replied j r) ++ others))
     → ⊥
 
--- What is told of a line by its own processor: with a number, that a reply stands, with so many
+-- What is said of a line by its own processor: with a number, that a reply stands, with so many
 -- bytes of the text, and what processor and front it leaves; with none, that no reply stands.
 abbrev pub TellsReply :
     JudgedLine → Processor → (ℕ → ℕ) → Option ℕ → Processor → (ℕ → ℕ) → Type 0
@@ -132,8 +132,7 @@ TellsReply j p front (Some n) later behind =
     × LeadsTo front (events_in p (replied j h.reply)) behind
 TellsReply j p front None later behind = HasNoReply j p front
 
--- What is told of a line, with the processors and the fronts of all in place of its own
--- processor's.
+-- What is said of a line, with the processors and the fronts of all instead of its own processor's.
 abbrev pub TellsLine :
     JudgedLine
     → List Processor

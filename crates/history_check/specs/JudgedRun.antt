@@ -1,4 +1,4 @@
--- What the judge carries between two sections.
+-- A resize call between two sections, on all stores that the judge carries from one to the next.
 use Rattle.std.specs.Prelude.{ℕ, List}
 use Rattle.papr_codes.specs.declared.calls.Hcall.{Hcall}
 use Rattle.trace_reply.specs.declared.reply.Reply.{Reply}

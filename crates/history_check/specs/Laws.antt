@@ -1,4 +1,4 @@
--- What is promised of the verdict.
+-- Laws of the verdict: good runs are judged good, and a text has at most one run and one verdict.
 use Rattle.std.specs.Prelude.{◌≡◌, ℕ, ◌≤◌, List, ◌++◌}
 use Rattle.trace_read.specs.Trace.{AcceptedTrace, IsAccepted}
 use Rattle.trace_reply.specs.declared.reply.Reply.{Reply}
@@ -29,7 +29,7 @@ OneRunHasText =
     → text_of t rs ++ x ≡ text_of t qs ++ y
     → rs ≡ qs
 
--- A text that begins with that of a good run begins with one of the trace cut behind any quiet
+-- A text that begins with that of a good run begins with one of the trace cut after any quiet
 -- line.
 abbrev pub EarlierSectionsStand : Type 0
 EarlierSectionsStand =

@@ -55,7 +55,7 @@ LineFindsPage p (acts.Access want ea user) (replies.Access r) =
     WalkFindsPage (segment_of p.slots ea) r.by r.receipts
 LineFindsPage p act r = Unit {0}
 
--- The reply is to an access by a cached line.
+-- The reply is to an access by a cached translation.
 abbrev pub IsHitReply : Reply → Type 0
 IsHitReply r = way_of r ≡ Some Hit
 
@@ -84,7 +84,7 @@ FitsNoReply context p l found given =
     → ⊥
 
 -- The reply stands: it is one to the line by operations that found these states, its receipts have
--- marks, and a cached line that was gone has left its stamp when the section closes.
+-- marks, and a cached translation that was gone has left its stamp when the section closes.
 pub record StandsOn
     (context : StoreContext)
     (closing : List State)

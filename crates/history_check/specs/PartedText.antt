@@ -1,4 +1,4 @@
--- The lines of a section by stores, and their parts of a text: the reply to a line that isn't quiet
+-- The lines of a section by stores, and their parts of a text. The reply to a line that isn't quiet
 -- is one line of text.
 use Rattle.std.specs.Prelude.{◌≡◌, ℕ, zero, suc, ◌<◌, ◌==◌, Bool, List, [], ◌∷◌, ◌++◌, length, slice_index_or, if◌then◌else◌}
 use Rattle.bus_window.specs.Windows.{BusWindow}
@@ -8,17 +8,17 @@ use Rattle.run_model.specs.StoreNumbers.{store_of, lines_on_store}
 use Rattle.history_check.specs.declared.parting.Part.{Part}
 
 -- ---- lines of text
--- What stands up to the first LF, and with it; all where there is none.
+-- The text up to and with the first LF; all where there is none.
 abbrev pub first_told : List ℕ → List ℕ
 first_told [] = []
 first_told (c ∷ text) = if c == 10 then c ∷ [] else c ∷ first_told text
 
--- What stands behind that.
+-- The text after that.
 abbrev pub behind_told : List ℕ → List ℕ
 behind_told [] = []
 behind_told (c ∷ text) = if c == 10 then text else behind_told text
 
--- What stands behind so many lines of text.
+-- The text after so many lines.
 abbrev pub behind_lines : ℕ → List ℕ → List ℕ
 behind_lines zero text = text
 behind_lines (suc n) text = behind_lines n (behind_told text)

@@ -8,23 +8,23 @@ use Rattle.entry_model.specs.declared.receipt.Receipt.{Receipt}
 use Rattle.entry_model.specs.Receipt.{is_decided}
 use Rattle.hpte_fields.specs.Fields.{rc_bits}
 
--- Behind the given states stands one on which an Enter finds the entry taken, and any other
--- operation finds nothing.
+-- After the given states comes one on which an Enter finds the entry taken, and any other operation
+-- finds nothing.
 abbrev pub state_past_end : Op → State
 state_past_end (Enter dword0 dword1) = record (empty_state 0) { valid = true }
 state_past_end other = empty_state 0
 
 -- The state that the next operation is made on.
-abbrev pub next_state : List State → Op → State
-next_state [] op = state_past_end op
-next_state (s ∷ states) op = s
+abbrev pub found_state : List State → Op → State
+found_state [] op = state_past_end op
+found_state (s ∷ states) op = s
 
 -- The states before, in the order of the receipts.
 abbrev pub before_each : List Receipt → List State
 before_each rs = map (λ (r : Receipt). r.before) rs
 
 -- ---- a store of given states
--- The states still to come, and whether an answer used a translation. Behind such an answer the
+-- The states still to come, and whether an answer used a translation. After such an answer the
 -- store promises nothing of the states.
 pub record ReplayState : Type 0 where
   pub order : ℕ
@@ -43,7 +43,7 @@ after_receipt a r = record {
 abbrev pub IsReplayed : ReplayState → ReplayState → List Receipt → Type 0
 IsReplayed a b [] = b ≡ a
 IsReplayed a b (r ∷ rs) =
-    (a.decided ≡ false → r.before ≡ next_state a.states r.op)
+    (a.decided ≡ false → r.before ≡ found_state a.states r.op)
     × IsCanonicalState r.before
     × IsReplayed (after_receipt a r) b rs
 

@@ -1,4 +1,4 @@
--- The marks and the way of a reply, by its receipts.
+-- The marks of a reply's receipts, and whether an access used a cached translation or a walk.
 use Rattle.std.specs.Prelude.{◌≡◌, List, [], ◌∷◌, map, Option, Some, None}
 use Rattle.entry_model.specs.declared.access_reply.By.{By}
 use Rattle.trace_reply.specs.Replies.{receipts_in}
@@ -11,7 +11,7 @@ use Rattle.receipt_text.specs.Receipts.{mark_of}
 abbrev pub marks_in : Reply → List Mark
 marks_in reply = map mark_of (receipts_in reply)
 
--- By what an access found its entry: a cached line or a walk. Other replies don't say.
+-- By what an access found its entry: a cached translation or a walk. Other replies don't say.
 abbrev pub way_of : Reply → Option By
 way_of (replies.Access r) = r.by
 way_of other = None

@@ -67,7 +67,7 @@ ending_states a (x ∷ xs) = ending_states (after_step a x) xs
 
 -- ---- places
 -- Nothing was changed by an operation, a store of a processor or none, as the answer and R and C
--- before tell.
+-- before show.
 abbrev pub is_unchanged : Bool → Answer → Bool → Bool → Bool
 is_unchanged store answer r c =
     if is_change answer

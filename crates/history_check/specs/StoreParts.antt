@@ -28,7 +28,7 @@ AreOn s number ls =
     ls
 
 -- The lines have good replies on the store of this number, with which the text begins. The other
--- stores stay, and where the lines are on this one, it is as behind them.
+-- stores stay, and where the lines are on this one, it is as they leave it.
 pub record FoundOn
     (s : AllStores)
     (number : ℕ)

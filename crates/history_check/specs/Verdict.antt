@@ -1,4 +1,4 @@
--- The verdict on a text of replies to a trace.
+-- The verdict on a text of replies to a trace: good, or bad with its first bad section.
 use Rattle.std.specs.Prelude.{◌≡◌, ℕ, zero, suc, ◌+◌, ◌<◌, ◌≤◌, List, [], ◌∷◌, ◌++◌, count_by, if◌then◌else◌, nat_le, MatchBool}
 use Rattle.trace_line.specs.declared.line.TraceLine.{TraceLine}
 use Rattle.trace_line.specs.Lines.{is_quiet}
@@ -9,7 +9,7 @@ use Rattle.run_model.specs.GoodRun.{IsGoodRun}
 use Rattle.history_check.specs.declared.verdict.Verdict.{Verdict}
 use Rattle.history_check.specs.declared.verdict.Verdict.TheVariants as verdicts
 
--- ---- a trace cut behind a quiet line
+-- ---- a trace cut after a quiet line
 -- The lines up to the k-th quiet line, which is the last of them; all where there are fewer.
 abbrev pub lines_to : ℕ → List TraceLine → List TraceLine
 lines_to zero ls = []
@@ -34,7 +34,7 @@ BeginsGood t text =
 abbrev pub IsGoodText : AcceptedTrace → List ℕ → Type 0
 IsGoodText t text = (rs : List Reply) × IsGoodRun t rs × (text ≡ text_of t rs)
 
--- Section k stands: the text begins with that of a good run of the lines to its end. Behind the
+-- Section k stands: the text begins with that of a good run of the lines to its end. After the
 -- last section stands that nothing follows.
 abbrev pub SectionStands : AcceptedTrace → List ℕ → ℕ → Type 0
 SectionStands t text k =

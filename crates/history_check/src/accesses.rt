@@ -1,3 +1,5 @@
+//! The reply to an access, made again from the entry states that its operations found: by a cached
+//! translation or by a walk of the page.
 ghost use Rattle.hpte_fields.specs.TableSize.{IsTableOrder};
 ghost use Rattle.std.specs.Prelude.{◌≡◌, length, List, Some, IfSome, IfNone};
 ghost use Rattle.entry_model.specs.declared.receipt.Receipt.{Receipt};
@@ -66,8 +68,8 @@ fn is_current(line: &Line, state: &EntryState) -> bool
         && state.dword1 == line.dword1
 }
 
-/// The receipt of an access by a cached line whose entry was in this state. `None` where there is
-/// none.
+/// The receipt of an access by a cached translation whose entry was in this state. `None` where
+/// there is none.
 fn hit_on(state: &EntryState, line: &Line, op: Op) -> Option<Receipt>
     ensures some { IfSome result (IsHitBy line.now op state.now) }
     ensures none { IfNone result ((r : Receipt) → IsHitBy line.now op state.now r → ⊥) }

@@ -1,3 +1,5 @@
+//! Hypervisor calls and device accesses made again on the entry states that they found, and the
+//! bound of sixteen operations a call.
 ghost use Rattle.hpte_fields.specs.TableSize.{IsTableOrder};
 ghost use Rattle.std.specs.Prelude.{◌≡◌, ◌≤◌, length};
 ghost use Rattle.entry_model.specs.declared.device_reply.DeviceReply.{DeviceReply};
@@ -73,12 +75,12 @@ pub fn device_on(
     make_device_access(&mut store, around, ioba, write, receipts)
 }
 
-/// Tells that a hypervisor call has at most sixteen operations, and does nothing else.
+/// States that a hypervisor call has at most sixteen operations, and does nothing else.
 fn call_names_few(context: &Context, hcall: Hcall, args: &[u64; 8])
     ensures { length (ops_of (hcall_plan context.now hcall args.now).calls) ≤ 16 }
 {}
 
-/// Tells the same of a line, and does nothing else.
+/// States the same of a line, and does nothing else.
 pub fn names_few(context: &Context, act: &Act)
     ensures { length (named_ops context.now act.now) ≤ 16 }
 {

@@ -1,3 +1,5 @@
+//! The judge of a whole text: section after section, each ended by a quiet line, up to the first
+//! that no good run explains.
 ghost use Rattle.std.specs.Prelude.{◌≡◌, ◌≤◌, ◌<◌, ◌+◌, ◌-◌, ◌^◌, ◌++◌, ◌∷◌, ℕ, List, true, IfOk, IfSome, IfNone, OnOk};
 ghost use Rattle.trace_line.specs.Lines.{is_quiet};
 ghost use Rattle.reply_text.specs.Text.{reply_text};
@@ -14,7 +16,7 @@ use trace_line::TraceLine;
 use trace_read::Trace;
 use trace_reply::Reply;
 
-/// The lines before the first quiet one, this one, and those behind it. `None` where none is quiet.
+/// The lines before the first quiet one, this one, and those after it. `None` where none is quiet.
 fn first_section(lines: &[TraceLine]) -> Option<(&[TraceLine], &TraceLine, &[TraceLine])>
     ensures parts { IfSome
         result
@@ -54,8 +56,8 @@ fn behind_reply<'a>(
     Ok(text.strip_prefix(own.as_bytes()))
 }
 
-/// What stands in the text behind the reply to a quiet line, which the run then has behind it.
-/// `None` where that reply does not stand first.
+/// Runs a quiet line, and gives the text that follows its reply. `None` where the text does not
+/// begin with that reply.
 fn behind_quiet<'a>(
     alloc: Global,
     run: &mut JudgedRun,

@@ -1,3 +1,4 @@
+//! The store that a section is judged on: the page table or the entries of a DMA window.
 use bus_window::Window;
 use frame_grants::Grants;
 use std::marker::Model;

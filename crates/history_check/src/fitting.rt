@@ -1,3 +1,5 @@
+//! A reply compared with the given text: it fits if it has a receipt for each state found and the
+//! text begins with its bytes.
 ghost use Rattle.std.specs.Prelude.{◌≡◌, ◌≤◌, ◌++◌, drop, length, map, List, ℕ, IfOk, IfSome, IfNone};
 ghost use Rattle.std.specs.List.{AllByRecursion};
 ghost use Rattle.trace_reply.specs.Replies.{receipts_in};
@@ -14,7 +16,7 @@ use std::alloc::AllocError;
 use trace_line::TraceLine;
 use trace_reply::{ReplyEnd, ReplySlot};
 
-/// Tells that entry and stamp of a receipt fit into a mark, and does nothing else.
+/// States that entry and stamp of a receipt fit into a mark, and does nothing else.
 fn has_mark(receipt: &Receipt)
     ensures { IsMark (mark_of receipt.now) }
 {
@@ -22,7 +24,7 @@ fn has_mark(receipt: &Receipt)
     let _stamp = receipt.before.stamp;
 }
 
-/// Tells the same of each of the receipts, and does nothing else.
+/// States the same of each of the receipts, and does nothing else.
 fn have_marks(receipts: &[Receipt])
     ensures { AllByRecursion IsMark (map mark_of receipts.now) }
 {

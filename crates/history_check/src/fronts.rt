@@ -1,3 +1,5 @@
+//! Fronts, by which a processor's receipts are tested to be in order on each entry; kept in a list
+//! of all entries where that has room, else in a map.
 ghost use Rattle.std.specs.Prelude.{◌≡◌, ℕ, ◌<◌, ◌^◌, ◌++◌, true, false, map, List, [], ◌∷◌, IfOk, OnOk};
 ghost use Rattle.entry_model.specs.declared.receipt.Receipt.{Receipt};
 ghost use Rattle.entry_model.specs.Receipt.{after_of};
@@ -124,7 +126,7 @@ fn pair_after(receipt: &Receipt) -> u64
     }
 }
 
-/// A cached line was found gone: the front of its entry is raised.
+/// A cached translation was found gone: the front of its entry is raised.
 fn pass_line(fronts: &mut Fronts, opening: &[u64], line: &Line) -> Result<(), AllocError>
     ensures { OnOk
         result
@@ -137,7 +139,7 @@ fn pass_line(fronts: &mut Fronts, opening: &[u64], line: &Line) -> Result<(), Al
     set_front(fronts, line.entry, front.max(pair_beyond(line)))
 }
 
-/// The cached line that was gone, if there was one.
+/// The cached translation that was gone, if there was one.
 fn pass_gone(fronts: &mut Fronts, opening: &[u64], gone: &Option<Line>) -> Result<(), AllocError>
     ensures { OnOk
         result
@@ -211,8 +213,8 @@ fn keep_receipts(
     Ok(true)
 }
 
-/// Takes a line's events into the fronts of its processor: the cached line that was gone, if there
-/// was one, and the receipts. Answers whether none of these comes before its entry's front.
+/// Takes a line's events into the fronts of its processor: the cached translation that was gone, if
+/// there was one, and the receipts. Answers whether none of these comes before its entry's front.
 pub fn keep_fronts(
     fronts: &mut Fronts,
     opening: &[u64],

@@ -1,3 +1,5 @@
+//! A run as the judge makes it again, section by section: the partition, its processors and its DMA
+//! windows.
 ghost use Rattle.std.specs.Prelude.{◌≡◌, ◌≤◌, ◌<◌, ◌+◌, ◌-◌, ◌^◌, ℕ, List, true, length, drop, IfOk, IfSome, IfNone, OnOk};
 ghost use Rattle.partition.specs.PartitionState.{HasStates};
 ghost use Rattle.tlb_model.specs.Processor.{Processor};
@@ -29,7 +31,7 @@ use trace_read::Config;
 use trace_reply::{Reply, Shown};
 use vcpu::{Cpu, clear_caches, empty_cpus};
 
-/// What a run carries between two sections, as its replies tell of it.
+/// What a run carries between two sections, as its replies show it.
 #[derive(Drop)]
 pub struct JudgedRun {
     partition: Partition,
@@ -52,8 +54,8 @@ impl Model for JudgedRun {
         HasStates r.partition × NumbersDiffer (windows_in r.windows.items) };
 }
 
-/// Finds a section of the page table: how many bytes stand first that are the text of good replies
-/// to these lines. `None` where there are no such replies; then nothing is told of the table.
+/// Finds a section of the page table: how many bytes at the start are the text of good replies to
+/// these lines. `None` where there are no such replies; then nothing is said of the table.
 fn table_found(
     alloc: Global,
     partition: &mut Partition,
@@ -160,8 +162,8 @@ impl JudgedRun {
         })
     }
 
-    /// Finds a section: how many bytes stand first that are the text of good replies to these
-    /// lines. `None` where there are no such replies; then nothing is told of the run.
+    /// Finds a section: how many bytes at the start are the text of good replies to these lines.
+    /// `None` where there are no such replies; then nothing is said of the run.
     pub fn section(
         &mut self,
         alloc: Global,
@@ -205,9 +207,9 @@ impl JudgedRun {
         Ok(Some(replies_end(text, lines.len())))
     }
 
-    // Finds a section of the store of this number: how many bytes stand first that are the text of
-    // good replies to these lines. `None` where there are no such replies; then nothing is told of
-    // the run.
+    // Finds a section of the store of this number: how many bytes at the start are the text of good
+    // replies to these lines. `None` where there are no such replies; then nothing is said of the
+    // run.
     fn found_on(
         &mut self,
         alloc: Global,

@@ -1,3 +1,5 @@
+//! One line judged: its reply fits the text, a cached translation that it found gone is outdated
+//! when the section closes, and its receipts keep the fronts.
 ghost use Rattle.std.specs.Prelude.{◌≡◌, ◌<◌, true, false, IfOk, IfSome};
 ghost use Rattle.entry_model.specs.Run.{state_at};
 ghost use Rattle.trace_line.specs.Lines.{is_quiet};
@@ -15,8 +17,8 @@ use trace_line::TraceLine;
 use trace_reply::ReplySlot;
 use vcpu::Cpu;
 
-/// Whether the entry of a cached line that was gone, if there was one, has left the line's stamp in
-/// these states.
+/// Whether the entry of a cached translation that was gone, if there was one, has left the line's
+/// stamp in these states.
 fn has_left(closing: &[EntryState], gone: &Option<Line>) -> bool
     ensures yes { result ≡ true
         → IfSome gone.now (λ line. line.stamp < (state_at closing.now line.entry).stamp) }
@@ -35,8 +37,9 @@ fn has_left(closing: &[EntryState], gone: &Option<Line>) -> bool
 
 /// Judges a line that isn't quiet by the states that its operations found, on a section that opened
 /// on states with these pairs and closes on these states. Gives how many bytes of the given text
-/// its reply has, and leaves its processor and the processor's fronts as they are behind it. `None`
-/// where no reply stands. `out` is room to write in, and `place` for the reply.
+/// its reply has, and leaves its processor and the processor's fronts as they are after it. `None`
+/// if no good reply of the line is at the beginning of the given text. `out` is room to write in,
+/// and `slot` is for the reply.
 pub fn judge_line(
     context: &Context,
     opening: &[u64],

@@ -1,3 +1,5 @@
+//! A section's lines judged in file order, each with its share of the states found, its processor,
+//! and that processor's fronts.
 ghost use Rattle.std.specs.Prelude.{◌≡◌, ◌<◌, length, ℕ, false, IfOk};
 ghost use Rattle.entry_model.specs.Fronts.{front_at};
 ghost use Rattle.trace_line.specs.Lines.{is_quiet, AreOnProcessors};
@@ -139,7 +141,7 @@ fn judge_each(
 /// Judges the lines of a section by the states that their operations found: so many of each line,
 /// one line after the other. `opening` has the pairs of the states on which the section opened, and
 /// `closing` the states on which it closes. Gives how many bytes of the given text the replies
-/// have, and leaves the processors as they are behind the lines. `None` where no replies stand.
+/// have, and leaves the processors as they are after the lines. `None` where no replies stand.
 pub fn judge_lines(
     alloc: Global,
     context: &Context,

@@ -8,7 +8,8 @@ pub fn at_most_one()
     ensures text { OneRunHasText }
 {}
 
-/// The replies of a good run up to a quiet line are a good run of the lines up to it.
+/// A text that begins with that of a good run begins with that of a good run of the trace cut after
+/// any quiet line.
 pub fn earlier_sections_stand()
     ensures { EarlierSectionsStand }
 {}

@@ -1,5 +1,8 @@
 //! A judge of recorded runs: whether the replies to a trace are those of a good run, and the first
 //! section of which they are not.
+//!
+//! Main contracts: `check_replies`: the verdict on a text of replies, in both directions;
+//! `at_most_one`, `one_verdict`, `good_runs_are_good`.
 #![tactic(auto)]
 
 mod accesses;

@@ -1,3 +1,5 @@
+//! The reply to one line that the states found and the given text allow: an access by a cached
+//! translation is tried first, then all else.
 ghost use Rattle.std.specs.Prelude.{◌≡◌, length, true, false, is_none, Some, IsSomeAnd, IfOk, IfSome, IfNone};
 ghost use Rattle.slb_model.specs.Refusals.{mte_refusal};
 ghost use Rattle.entry_model.specs.declared.access_reply.AccessReply.{AccessReply};

@@ -1,3 +1,5 @@
+//! Steps made of the marks of a reply, each with its place in its entry's history: the stamp, the
+//! count of R and C, and whether the entry changed.
 ghost use Rattle.std.specs.Prelude.{◌≡◌, ◌≤◌, ◌<◌, ◌+◌, ◌^◌, ◌++◌, length, OnOk};
 ghost use Rattle.history_check.specs.Steps as steps_of;
 ghost use Rattle.history_check.specs.PlacedSteps.{is_store_act};
@@ -39,7 +41,7 @@ fn is_store(act: &Act) -> bool
 }
 
 /// Whether an operation, a store or none, changed nothing, as its answer and R and C before it
-/// tell.
+/// show.
 fn is_unchanged(store: bool, answer: Answer, referenced: bool, changed: bool) -> bool
     ensures { result ≡ steps_of.is_unchanged store answer referenced changed }
 {

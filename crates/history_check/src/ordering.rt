@@ -1,3 +1,5 @@
+//! Steps sorted by place and made one after the other on the entry states, with the state that each
+//! found.
 ghost use Rattle.std.specs.Prelude.{◌≡◌, length, map, IfOk, OnOk};
 ghost use Rattle.std.specs.List.{AllByRecursion};
 ghost use Rattle.history_check.specs.OrderedSteps.{IsOrder, IsStepOf, AreWritten, numbered_by, found_in_order, ending_in_order};

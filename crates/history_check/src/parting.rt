@@ -1,3 +1,5 @@
+//! A section dealt to the stores: the lines on the page table and on each window, and the text of
+//! their replies.
 ghost use Rattle.std.specs.Prelude.{◌≡◌, ◌≤◌, ◌+◌, ◌++◌, ◌∷◌, [], length, drop, IfOk, OnOk};
 ghost use Rattle.std.specs.List.{AllByRecursion};
 ghost use Rattle.run_model.specs.AllStores.{windows_in};
@@ -18,8 +20,7 @@ pub struct Part {
     pub text: Vec<u8>,
 }
 
-/// What stands up to the first LF, and with it, and what stands behind. All stands before where
-/// there is no LF.
+/// The text up to and with the first LF, and the text after it. Without an LF the first has all.
 fn cut_reply(text: &[u8]) -> (&[u8], &[u8])
     ensures first { result.0.now ≡ first_told text.now }
     ensures behind { result.1.now ≡ behind_told text.now }
@@ -43,7 +44,7 @@ pub fn replies_end(text: &[u8], count: usize) -> usize
     text.len() - rest.len()
 }
 
-/// Puts a line and its text behind those of a part.
+/// Appends a line and its text to those of a part.
 fn put_line(part: &mut Part, line: &TraceLine, own: &[u8]) -> Result<(), AllocError>
     ensures lines { OnOk result (part.new.lines.items ≡ part.old.lines.items ++ line.now ∷ []) }
     ensures text { OnOk result (part.new.text.items ≡ part.old.text.items ++ own.now) }

@@ -1,3 +1,5 @@
+//! From places to states: a section's steps, sorted and made again, give the entry state that each
+//! operation found.
 ghost use Rattle.std.specs.Prelude.{◌≡◌, List, length, map, IfOk};
 ghost use Rattle.std.specs.List.{AllByRecursion};
 ghost use Rattle.history_check.specs.OrderedSteps.{IsStepOf, numbered, numbered_by};

@@ -1,3 +1,5 @@
+//! What a judged line does to its processor: the SLB, masks and cached translations after it, and
+//! the cached translation that it found gone.
 ghost use Rattle.std.specs.Prelude.{◌≡◌, List};
 ghost use Rattle.entry_model.specs.declared.receipt.Receipt.{Receipt};
 ghost use Rattle.entry_model.specs.Replies.{access_reply_with};
@@ -12,7 +14,7 @@ use trace_line::Act;
 use trace_reply::{ReplyEnd, ReplySlot};
 use vcpu::Cpu;
 
-/// The cached line of the page that an access walked.
+/// The cached translation of the page that an access walked.
 fn passed(cpu: &Cpu, ea: u64, end: &AccessEnd) -> Option<Line>
     ensures { (rs : List Receipt)
         → result
@@ -27,8 +29,8 @@ fn passed(cpu: &Cpu, ea: u64, end: &AccessEnd) -> Option<Line>
     }
 }
 
-/// The cached line that is gone, if the reply to a line is in the slot: that of the page that it
-/// walked.
+/// The cached translation that is gone, if the reply to a line is in the slot: that of the page
+/// that it walked.
 pub fn gone_line_of(cpu: &Cpu, act: &Act, slot: &ReplySlot) -> Option<Line>
     ensures { result ≡ processors.gone_line_of cpu.now act.now (reply_in slot.now) }
 {

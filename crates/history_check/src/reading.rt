@@ -1,3 +1,5 @@
+//! Marks read from the text of a section: one line of text for each line, with marks of entries
+//! within the table.
 ghost use Rattle.std.specs.Prelude.{◌≡◌, ◌<◌, ◌≤◌, ◌++◌, ◌∷◌, ◌↔◌, true, length, IsTrue, IfOk, IfSome, IfNone};
 ghost use Rattle.std.specs.List.{AllByRecursion};
 ghost use Rattle.receipt_text.specs.Cuts.{lacks};
@@ -14,7 +16,7 @@ use receipt_text::{Mark, marks_of};
 use std::alloc::{AllocError, Global};
 use trace_line::TraceLine;
 
-/// The steps that the marks of a section's lines tell, and how many each line has.
+/// The steps that the marks of a section's lines show, and how many each line has.
 #[derive(Drop)]
 pub struct SectionSteps {
     /// The steps, in file order.
@@ -23,7 +25,7 @@ pub struct SectionSteps {
     pub counts: Vec<usize>,
 }
 
-/// What stands before the first LF, and what stands behind it.
+/// The text before the first LF, and the text after it.
 pub fn first_reply(text: &[u8]) -> Option<(&[u8], &[u8])>
     ensures lacks { IfSome result (λ parts. lacks 10 parts.0.now ≡ true) }
     ensures parts { IfSome result (λ parts. text.now ≡ parts.0.now ++ 10 ∷ parts.1.now) }

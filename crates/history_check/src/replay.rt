@@ -1,8 +1,10 @@
+//! An entry store without entries: it answers operations from a list of states, so that calls and
+//! walks can be made again.
 ghost use Rattle.hpte_fields.specs.TableSize.{IsTableOrder};
 ghost use Rattle.std.specs.Prelude.{◌≡◌, false};
 ghost use Rattle.entry_model.specs.State.{IsCanonicalState};
 ghost use Rattle.entry_model.specs.Receipt.{is_decided, IsReceiptOf};
-ghost use Rattle.history_check.specs.Replay.{after_receipt, next_state};
+ghost use Rattle.history_check.specs.Replay.{after_receipt, found_state};
 
 use entry_model::{Answer, EntryState, EntryStore, Line, Op, Receipt, reply};
 use std::marker::Model;
@@ -34,7 +36,7 @@ fn is_decided(answer: Answer) -> bool
     matches!(answer, Answer::Denied | Answer::Masked | Answer::At)
 }
 
-/// The state that stands behind all that were given.
+/// The state that comes after all those that were given.
 fn state_past_end(op: &Op) -> EntryState
     ensures { result ≡ Rattle.history_check.specs.Replay.state_past_end op.now }
 {
@@ -68,7 +70,7 @@ impl<'a> Replay<'a> {
 
     // The state that comes next.
     fn next(&self, op: &Op) -> EntryState
-        ensures { result ≡ next_state self.now.states op.now }
+        ensures { result ≡ found_state self.now.states op.now }
     {
         match self.states.first() {
             Some(state) => *state,

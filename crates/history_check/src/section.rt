@@ -1,3 +1,5 @@
+//! One section judged on one store: read its marks, find the states by their places, and judge its
+//! lines by these.
 ghost use Rattle.std.specs.Prelude.{◌≡◌, ◌≤◌, ◌<◌, ◌^◌, length, IfOk};
 ghost use Rattle.std.specs.List.{AllByRecursion};
 ghost use Rattle.entry_model.specs.State.{State};
@@ -31,9 +33,9 @@ fn pairs_of(alloc: Global, states: &[EntryState]) -> Result<Vec<u64>, AllocError
     Ok(pairs)
 }
 
-/// Finds a section that opens on these states, with these processors: how many bytes stand first
-/// that are the text of good replies to its lines. Leaves the states on which it closes, and its
-/// processors. `None` where the text begins with no such replies; then nothing is told of the
+/// Finds a section that opens on these states, with these processors: how many bytes at the start
+/// are the text of good replies to its lines. Leaves the states on which it closes, and its
+/// processors. `None` where the text begins with no such replies; then nothing is said of the
 /// states.
 pub fn section_found(
     alloc: Global,

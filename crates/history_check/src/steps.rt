@@ -1,3 +1,5 @@
+//! What is known of an operation from its line and its answer alone, and the entry state that it
+//! leaves.
 ghost use Rattle.std.specs.Prelude.{◌≡◌, ◌||◌, true};
 ghost use Rattle.entry_model.specs.Receipt.{is_at, is_change};
 ghost use Rattle.entry_model.specs.Reply.{touched_state};
@@ -12,7 +14,7 @@ use papr_codes::Hcall;
 use storage_prot::Want;
 use trace_line::Act;
 
-/// What is kept of each operation by which this TCE is put: the answer tells whether it emptied the
+/// What is kept of each operation by which this TCE is put: the answer shows whether it emptied the
 /// entry or was to enter the TCE there.
 fn tce_op(tce: u64, answer: Answer) -> Op
     ensures { result ≡ placed_of.tce_op tce answer }

@@ -254,7 +254,7 @@ page_at-sound order index dword0 dword1 p range e =
       },
     )
 
--- What is found is this page exactly where the four facts hold of it.
+-- What is found is this page exactly if the four facts hold of it.
 pub page_at-exact :
     (order index dword0 dword1 : ℕ) (found : Option VirtualPage)
     → least_order ≤ order

@@ -75,7 +75,7 @@ small_in_64_kb : page_at 18 0x20 0x1005 0x17012 ≡ Some (virtual_page false 1 1
 unfolding page_at group_of tag_of
 small_in_64_kb = refl
 
--- The next base page of the same 64 KB has group 7, so an entry for it stands there.
+-- The next base page of the same 64 KB has group 7, so an entry for it is in that group.
 the_next_in_64_kb : page_at 18 0x38 0x1005 0x17012 ≡ Some (virtual_page false 1 12 6)
 unfolding page_at group_of tag_of
 the_next_in_64_kb = refl

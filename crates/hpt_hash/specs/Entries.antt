@@ -1,4 +1,4 @@
--- The page that an entry translates.
+-- The base page that an entry translates, by its doublewords and its index in the table.
 use Rattle.std.specs.Prelude.{◌≡◌, ℕ, ◌+◌, ◌-◌, ◌*◌, ◌/◌, ◌%◌, ◌^◌, ◌==◌, ◌&&◌, Bool, true, false, if◌then◌else◌, IsTrue, IsSomeAnd, Option, Some, None, bit_xor}
 use Rattle.std.specs.Option.{option_and_then}
 use Rattle.page_sizes.specs.Sizes.{size_of}
@@ -18,7 +18,7 @@ pub record IsPageOf (order index dword0 dword1 : ℕ) (p : VirtualPage) : Type 0
   pub size : IsSomeAnd (size_of dword0 dword1) (λ size. size.base ≡ p.shift)
   -- The page's segment has the size that B says.
   pub segment : segment_code_of p.one_tb ≡ segment_code dword0
-  -- The entry stands in the page's primary group, or with H set in its secondary group.
+  -- The entry is in the page's primary group, or with H set in its secondary group.
   pub group : group_of p order (is_secondary dword0) ≡ index / 8
 
 -- Four of these, which say as much of a page: its tag holds the size of its segment.

@@ -1,4 +1,4 @@
--- What is proved of the page that an entry translates.
+-- The law that an entry translates one base page and no other.
 use Rattle.std.specs.Prelude.{◌≡◌, ℕ, ◌≤◌}
 use Rattle.power_addr.specs.Pages.{VirtualPage, IsPage}
 use Rattle.hpte_fields.specs.TableSize.{least_order}

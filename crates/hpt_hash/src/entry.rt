@@ -1,3 +1,4 @@
+//! The base page that an entry translates, rebuilt from its doublewords and its group.
 ghost use Rattle.std.specs.Prelude.{◌≡◌, ◌<◌, ◌≤◌, ◌↔◌, ◌-◌, ◌/◌, ◌^◌, IfSome, Some, None};
 ghost use Rattle.hpte_fields.specs.TableSize.{IsTableOrder, entry_count};
 ghost use Rattle.hpte_fields.specs.Fields.{is_secondary};
@@ -9,7 +10,7 @@ use hpte_fields::{VALID, one_tb, secondary, tag_of};
 use page_sizes::decode;
 use power_addr::{Page, offset_bits_of};
 
-/// The 55 bits of an abbreviated virtual page number, which stands above the low seven bits of
+/// The 55 bits of an abbreviated virtual page number, which follows the low seven bits of
 /// doubleword 0.
 const VIRTUAL_PAGE_NUMBER: u64 = (1 << 55) - 1;
 

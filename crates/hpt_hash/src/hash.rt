@@ -1,3 +1,4 @@
+//! The 39-bit hash of a page, and the two groups that it gives in a table of some order.
 ghost use Rattle.std.specs.Prelude.{◌≡◌, ◌≢◌, ◌<◌, ◌≤◌, ◌-◌, ◌^◌, true, false};
 ghost use Rattle.power_addr.specs.Pages.{vsid_bits};
 ghost use Rattle.hpt_hash.specs.Hash.{hash_of, mixed_bits, group_of};

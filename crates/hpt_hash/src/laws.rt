@@ -1,5 +1,5 @@
-//! Laws of the page that an entry translates. Each function does nothing, and its contract is the
-//! law.
+//! The base page that an entry translates is the only one. The function does nothing, and its
+//! contract is the law.
 
 ghost use Rattle.hpt_hash.specs.Laws.{OnePageOfAnEntry};
 

@@ -387,7 +387,7 @@ largest_joins height place l r largest left right parts whole_free = record {
         (room_right height place r l r left right parts limit
         (parts.free_right.free least)))
 
-  -- What is free in the whole is free in a half, but for the whole itself.
+  -- What is free in the whole is free in a half, except for the whole itself.
   at_most :
       (l < 18 + height) ⊎ (r < 18 + height) → (largest < 18) ⊎ (18 ≤ largest) → largest ≤ max l r
   at_most part (inl small) = let none = whole_free.none small in omega arith

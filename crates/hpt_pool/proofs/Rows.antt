@@ -77,7 +77,7 @@ both_taken :
 unfolding blocks_below
 both_taken = refl
 
--- Of four leaves the upper two are one block: the right half stands behind the left one.
+-- Of four leaves the upper two are one block: the nodes of the right half follow those of the left.
 upper_taken :
     blocks_below 2 0x1000000000
     (Open 19 ∷ Open 19 ∷ Open 18 ∷ Open 18 ∷ Taken ∷ Open 18 ∷ Open 18 ∷ [])

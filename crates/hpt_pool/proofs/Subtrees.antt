@@ -16,7 +16,7 @@ use Rattle.hpt_pool.proofs.Mending.{MadeOf}
 abbrev pub tree_at : ℕ → ℕ → List Node → List Node
 tree_at height index nodes = take (2 ^ (height + 1) - 1) (drop index nodes)
 
--- The index behind its last node.
+-- The index after its last node.
 abbrev pub end_at : ℕ → ℕ → ℕ
 end_at height index = index + (2 ^ (height + 1) - 1)
 
@@ -60,7 +60,7 @@ root-tree height index nodes =
     ∙ get_or-drop index nodes 0 Taken
     ∙ ap (λ n. get_or nodes n Taken) (let e : index + 0 ≡ index = omega arith in e)
 
--- The first nodes of what is behind some of them.
+-- The first nodes of a list from which some were dropped.
 part_drop :
     (skip size count index : ℕ) (nodes : List Node)
     → skip + count ≤ size

@@ -1,4 +1,4 @@
--- What the way to a node tells of the nodes on it.
+-- What the way to a node says of the nodes on it.
 use Rattle.std.proofs.Common.{◌≡◌, ℕ, zero, suc, ◌+◌, ◌-◌, ◌*◌, ◌/◌, ◌%◌, ◌^◌, ◌<◌, ◌≤◌, List, length, set, refl, sym, ap, ◌∙◌, subst, inl, inr, ◌⊎◌, arith}
 use Rattle.std.proofs.lemmas.Bool.{cases_eq}
 use Rattle.std.proofs.lemmas.Nat.{pow_pos, pow_below, ones-le, ones_cat}
@@ -206,7 +206,7 @@ way_up height lower index turns up_height up up_turns goes way =
           (same_above lower index turns above up half goes.half)
           (subst (λ n. IsWay (height - up_height) (suc lower) above n) (sym goes.turns_are) rest))
 
--- The node above and its halves stand in the list.
+-- The node above and its halves are in the list.
 pub record StandsIn (height index : ℕ) (nodes : List Node) : Type 0 where
   pub itself : index < length nodes
   pub left : index + 1 < length nodes
@@ -333,7 +333,7 @@ mended_none height index turns nodes after mended =
     (let e : height - height ≡ zero = omega arith in e) mended
 
 -- ---- down from a node
--- It has halves, its number is small, and its left half stands in the list.
+-- It has halves, its number is small, and its left half is in the list.
 pub record HasHalvesIn (lower index turns : ℕ) (nodes : List Node) : Type 0 where
   pub least : 0 < lower
   pub index_small : index < 2 ^ 32

@@ -1,5 +1,5 @@
--- A pool of memory, as the list of the blocks that are taken: where a further block fits, and what
--- taking and giving change.
+-- A pool of memory as the list of its taken blocks: where a further block fits, and what taking and
+-- giving change.
 use Rattle.std.specs.Prelude.{◌≡◌, ◌<◌, ◌≤◌, ℕ, ◌+◌, ◌-◌, ◌*◌, ◌%◌, ◌^◌, ◌==◌, Bool, true, false, not, ◌&&◌, nat_lt, nat_le, List, [], ◌∷◌, ◌++◌, filter, find, map, All, AllPairs, Option, option_map}
 use Rattle.std.specs.List.{list_any, range_with_len}
 use Rattle.pool_range.specs.Ranges.{IsPoolRange, range_refusal, least_pool_order}
@@ -17,7 +17,7 @@ pub record Block : Type 0 where
 abbrev pub block_at : ℕ → ℕ → Block
 block_at place order = record { place = place; order = order }
 
--- The address behind its last byte.
+-- The address after its last byte.
 abbrev pub end_of : Block → ℕ
 end_of block = block.place + 2 ^ block.order
 

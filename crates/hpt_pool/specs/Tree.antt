@@ -6,7 +6,7 @@ use Rattle.hpt_pool.specs.Free.{IsLargestFree}
 use Rattle.hpt_pool.specs.declared.tree.Node.{Node}
 use Rattle.hpt_pool.specs.declared.tree.Node.TheVariants.{Taken, Open}
 
--- A tree of this height has 2 ^ height leaves. Its nodes stand in one list: the root, then those of
+-- A tree of this height has 2 ^ height leaves. Its nodes are in one list: the root, then those of
 -- the left half, then those of the right half.
 abbrev pub root_of : List Node → Node
 root_of nodes = slice_index_or nodes 0 Taken

@@ -1,3 +1,6 @@
+//! The reasons why a pool can't be made, each with its message: its range is unsuitable, or memory
+//! is lacking.
+
 /// Why there is no such pool.
 #[derive(Clone, Copy, PartialEq, Eq, Debug, thiserror::Error)]
 pub enum PoolError {

@@ -3,6 +3,9 @@
 //! A hashed page table of `2^k` bytes begins at a multiple of `2^k` (Power ISA Book III, the
 //! table's base and size in SDR1 or in a partition table entry), so each block is aligned to its
 //! size.
+//!
+//! Main contracts: `take` is the lowest aligned place that overlaps no taken block, or none if
+//! there is none; `give`.
 #![tactic(auto)]
 
 mod error;

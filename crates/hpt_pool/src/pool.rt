@@ -1,3 +1,5 @@
+//! The pool of memory for page tables: takes the lowest free block of an order and gives blocks
+//! back, by a tree of free blocks.
 ghost use Rattle.std.specs.Prelude.{◌≡◌, ◌<◌, ◌≤◌, ◌^◌, Contains, MatchOption, IfOk, IfSome, IfNone, IsOkUnless, MatchResult, OnOk, Some, None, Err};
 ghost use Rattle.hpt_pool.specs.Pool.{block_at, no_blocks, pool_error, pool_refusal, lowest_place, FitsNowhere, IsLowest, with_block, without_block, IsSound};
 ghost use Rattle.pool_range.specs.Ranges.{least_pool_order};

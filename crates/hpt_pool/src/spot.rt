@@ -1,3 +1,5 @@
+//! Positions in a pool's tree: a node's index in the list of nodes, and the steps to its halves and
+//! to the node above.
 ghost use Rattle.std.specs.Prelude.{◌≡◌, ◌+◌, ◌*◌, ◌/◌, ◌%◌, ◌<◌, ◌≤◌, ◌^◌};
 ghost use Rattle.hpt_pool.specs.Way.{IsHalf, IsWay};
 ghost use Rattle.pool_range.specs.Ranges.{least_pool_order};
@@ -9,7 +11,7 @@ use crate::tree::LEAF_ORDER;
 pub struct Spot {
     /// It has `2^height` leaves.
     pub height: u8,
-    /// So many leaves. Its right half begins so far behind it in the list of nodes.
+    /// How many leaves it has. Its right half begins as many nodes after it in the list of nodes.
     pub leaves: usize,
     /// Its place in the list.
     pub index: usize,

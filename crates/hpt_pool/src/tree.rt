@@ -1,3 +1,5 @@
+//! The tree over a pool's blocks, as one list of nodes: each says that its block is taken, or how
+//! large the largest free block in it is.
 ghost use Rattle.std.specs.Prelude.{◌≡◌, ◌+◌, ◌-◌, ◌<◌, ◌≤◌, ◌^◌, Contains, IfOk, length};
 ghost use Rattle.hpt_pool.specs.Pool.{block_at, taken_with, taken_without};
 ghost use Rattle.hpt_pool.specs.Tree.{root_of, blocks_below, largest_of, JoinsHalves, IsTree};

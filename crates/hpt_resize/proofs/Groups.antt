@@ -71,7 +71,7 @@ page_goes from to state index page e =
     (λ (page : VirtualPage). group_of page to (is_secondary state.dword0) * 8 + index % 8))
     e
 
--- An entry of a group of a table stands in that table.
+-- The index of an entry of a group is one of the table's.
 pub slot_in_table :
     (order group index : ℕ)
     → least_order ≤ order

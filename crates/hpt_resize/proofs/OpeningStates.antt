@@ -27,7 +27,7 @@ unfolding empty_states
 opening-length order es =
     entries-length (empty_states order) es ∙ length-replicate (entry_count order) (empty_state 0)
 
--- One more entry behind the others.
+-- One more entry after the others.
 pub entries-more :
     (states : List State) (es : List ImageEntry) (e : ImageEntry)
     → with_entries states (es ++ e ∷ []) ≡ with_entry (with_entries states es) e

@@ -95,7 +95,7 @@ pub carried_valid :
 carried_valid from to states k target is =
     (carried_is from to (state_at states k) k target is).valid
 
--- An entry that stands at an index was carried there, so no other goes there as long as the index
+-- An entry that is at an index was carried there, so no other goes there as long as the index
 -- is empty.
 free_target :
     (from to : ℕ) (states into : List State) (index k target : ℕ)

@@ -1,4 +1,4 @@
--- What holds states of entries.
+-- Values that hold states of entries: a list of them takes the states of another list.
 use Rattle.std.specs.Prelude.{List, [], ◌∷◌}
 use Rattle.entry_model.specs.State.{State}
 

@@ -1,4 +1,4 @@
--- A table that is made ready.
+-- The table that is being prepared: how many of its entries are ready, and what a call adds.
 use Rattle.std.specs.Prelude.{◌≡◌, ℕ, ◌+◌, ◌≤◌, ◌==◌, Bool, List, length, min, replicate}
 use Rattle.entry_model.specs.State.{State, empty_state}
 use Rattle.hpte_fields.specs.TableSize.{IsTableOrder, entry_count}

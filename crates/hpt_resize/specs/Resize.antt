@@ -1,5 +1,5 @@
--- The two resize calls, on the pending table, the pool and the current table. Their rules are tried
--- in the order in which they stand here.
+-- The two resize calls: what they answer, and the pending table, the pool and the current table
+-- after them. Each tries its rules in the order in which its definition lists them.
 use Rattle.std.specs.Prelude.{◌≡◌, ◌≢◌, ℕ, ◌+◌, ◌==◌, ◌&&◌, ◌||◌, not, Bool, false, nat_lt, nat_le, if◌then◌else◌, List, length, Contains, Option, Some, None}
 use Rattle.hpt_pool.specs.Pool.{Block, PoolState, block_at, lowest_place, with_block, without_block}
 use Rattle.entry_model.specs.State.{State}

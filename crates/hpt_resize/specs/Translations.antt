@@ -24,8 +24,8 @@ pub record WasCarried (old new : Table) (index : ℕ) : Type 0 where
   pub carried : carried_page old.order (state_at old.states entry) entry ≡ Some page
   pub goes : target_at old.order new.order old.states entry ≡ Some index
 
--- Each bolted entry of a page stands in the new table, and each valid entry of the new table came
--- so.
+-- Each bolted entry of a page is carried to the new table, and each valid entry of the new table
+-- was carried there.
 pub record KeepsTranslations (old new : Table) : Type 0 where
   pub carried :
       (entry : ℕ) (page : VirtualPage)

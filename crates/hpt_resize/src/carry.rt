@@ -1,3 +1,5 @@
+//! The rehash: each bolted entry that has a page goes to that page's group in an empty new table,
+//! until two entries would meet.
 ghost use Rattle.std.specs.Prelude.{◌≡◌, ◌-◌, ◌^◌, ◌<◌, ◌≤◌, length, map, Option, Some, None, IsOk, IfErr, OnOk, MatchOption, MatchResult, replicate, vec_len, vec_capacity};
 ghost use Rattle.hpte_fields.specs.TableSize.{IsTableOrder, entry_count};
 ghost use Rattle.entry_model.specs.State.{State, empty_state};
@@ -10,7 +12,7 @@ use entry_model::EntryState;
 use hpt_hash::{groups, page_of};
 use hpte_fields::{bolted, secondary};
 
-/// Two entries that would stand at one index of the new table.
+/// Two entries that would go to one index of the new table.
 #[derive(Clone, Copy, PartialEq, Eq, Debug)]
 pub struct Collision {
     /// The lower index in the old table.

@@ -1,3 +1,4 @@
+//! The page table that the guest uses, with its place in the pool, and what a commit answers.
 use crate::carry::Collision;
 use entry_model::EntryState;
 use papr_codes::Rc;

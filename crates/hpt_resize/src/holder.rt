@@ -1,3 +1,5 @@
+//! What a rehash reads states from and writes them to: an entry's state by itself, or a larger
+//! value that has one.
 ghost use Rattle.std.specs.Prelude.{◌≡◌};
 ghost use Rattle.entry_model.specs.State.{State};
 
@@ -8,14 +10,14 @@ pub trait StateHolder {
     /// The state that it holds.
     ghost held: { Self → State };
 
-    /// A holder, but with this state in place of its own.
+    /// The same holder with this state instead of its own.
     ghost holding: { Self → State → Self };
 
     /// The state that it holds.
     fn state(&self) -> EntryState
         ensures { result ≡ held self.now };
 
-    /// Takes this state in place of the one that it holds.
+    /// Takes this state instead of the one that it holds.
     fn hold(&mut self, state: &EntryState)
         ensures { self.new ≡ holding self.old state.now };
 

@@ -1,7 +1,10 @@
 //! The two calls by which a guest changes the size of its page table: H_RESIZE_HPT_PREPARE makes a
 //! new table ready, and H_RESIZE_HPT_COMMIT carries the bolted entries over and makes it the table.
 //!
-//! The calls have Linux's names. What is told here of them is this project's own behaviour.
+//! The calls have Linux's names. Their behaviour, as this crate describes it, is the project's own.
+//!
+//! Main contracts: `rehash`: the new table, or the first collision, and none where the order isn't
+//! lower; `Resize::prepare`, `commit`.
 #![tactic(auto)]
 
 mod carry;

@@ -1,3 +1,5 @@
+//! The table that is being prepared: it has a place in the pool and room for all entries, and each
+//! call makes a part of these ready.
 ghost use Rattle.std.specs.Prelude.{◌≡◌, ◌+◌, ◌-◌, ◌^◌, ◌<◌, ◌≤◌, [], ◌++◌, replicate, vec_len, vec_capacity};
 ghost use Rattle.hpte_fields.specs.TableSize.{IsTableOrder, entry_count};
 ghost use Rattle.entry_model.specs.State.{empty_state};

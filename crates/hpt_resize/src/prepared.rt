@@ -1,3 +1,5 @@
+//! H_RESIZE_HPT_PREPARE and H_RESIZE_HPT_COMMIT, on the pending table, the pool of table memory and
+//! the current table.
 ghost use Rattle.std.specs.Prelude.{◌≡◌, ◌≢◌, ◌+◌, ◌-◌, ◌^◌, ◌<◌, ◌≤◌, length, Contains, MatchOption, Some, None, true, false, IfOk, OnOk, OnErr, MatchResult, replicate, if◌then◌else◌, vec_capacity};
 ghost use Rattle.std.specs.Option.{ForSome};
 ghost use Rattle.hpt_pool.specs.Pool.{block_at};
@@ -147,7 +149,7 @@ impl Resize {
         if self.is_pending(order) {
             return Ok(Rc::Success);
         }
-        // Memory comes first: where there is none, the pending table must still stand.
+        // Memory comes first: where there is none, the pending table must still be there.
         let states = Vec::with_capacity(alloc, entry_count(order) as usize)?;
         self.drop_pending(pool);
         let Some(place) = pool.take(order) else {

@@ -1,3 +1,5 @@
+//! Rehashes into larger and smaller tables, and what prepares and commits answer and take of a
+//! small pool.
 ghost use Rattle.std.specs.Prelude.{◌≡◌, ◌≤◌, bit_and, length, replicate, vec_len, IfOk};
 ghost use Rattle.entry_model.specs.State.{empty_state};
 ghost use Rattle.hpte_fields.specs.TableSize.{entry_count, IsTableOrder};

@@ -1,4 +1,4 @@
--- One step of a trial of one operation on entries that stand one behind the other.
+-- One step of a trial of one operation on entries that stand one after the other.
 use Rattle.std.proofs.Common.{◌≡◌, ℕ, suc, ◌+◌, ◌-◌, ◌<◌, ◌≤◌, [], ◌∷◌, Bool, true, false, List, arith, subst, sym, ap, ◌∙◌, refl}
 use Rattle.entry_model.specs.declared.operation.Op.{Op}
 use Rattle.entry_model.specs.declared.operation.Answer.{Answer}

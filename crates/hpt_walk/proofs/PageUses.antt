@@ -31,7 +31,7 @@ record AsksGroup (order : ℕ) (page : VirtualPage) (mode : AccessMode) (op : Op
   access : op ≡ access_op page mode secondary
   group : group_of page order secondary ≡ entry / 8
 
--- An answer that used the entry's translation tells that the entry was one of the page.
+-- An answer that used the entry's translation shows that the entry was one of the page.
 used_page :
     (order : ℕ) (page : VirtualPage) (mode : AccessMode) (r : Receipt)
     → IsPage page

@@ -1,4 +1,4 @@
--- An access tells whether an entry is one of the page.
+-- An access shows whether an entry is one of the page.
 use Rattle.std.specs.Prelude.{IsTrue, IsSomeAnd, ◌==◌, ◌&&◌}
 use Rattle.std.proofs.Common.{◌≡◌, ℕ, ◌+◌, ◌/◌, ◌<◌, ◌≤◌, Bool, true, false, Option, Some, None, ap, sym, ◌∙◌, refl, ◌⊎◌, inl, inr, arith, ◌^◌}
 use Rattle.std.specs.Option.{option_map_or}

@@ -87,7 +87,7 @@ outcome_by grants ea (Some r) =
 unfoldable pub outcome_of : List Grant → ℕ → List Receipt → Outcome
 outcome_of grants ea rs = outcome_by grants ea (found_of rs)
 
--- ---- by a cached line
+-- ---- by a cached translation
 -- The access of the line's entry, with H as the line has it.
 abbrev pub hit_calls : Segment → Request → Line → List Call
 hit_calls seg a line =

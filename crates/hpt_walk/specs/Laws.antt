@@ -1,4 +1,5 @@
--- What is proved of the accesses of a page.
+-- The laws of accesses and walks: which entries they use, what they change, what masks refuse, and
+-- what can be cached.
 use Rattle.std.specs.Prelude.{◌≡◌, ◌≢◌, ℕ, ◌/◌, ◌%◌, ◌^◌, ◌<◌, ◌≤◌, ◌↔◌, Bool, false, IsTrue, List, find, Option, Some, option_map}
 use Rattle.std.specs.List.{AllByRecursion}
 use Rattle.power_addr.specs.Pages.{VirtualPage, IsPage}
@@ -33,8 +34,8 @@ pub record IsEntryState (s : State) : Type 0 where
   pub canonical : IsCanonicalState s
   pub fits : s.dword0 < 2 ^ 64
 
--- The answer used the entry's translation exactly where the entry is one of the page, and is
--- NoMatch exactly where it isn't.
+-- The answer used the entry's translation exactly if the entry is one of the page, and is
+-- NoMatch exactly if it isn't.
 pub record TellsPage
     (order entry : ℕ)
     (page : VirtualPage)
@@ -45,7 +46,7 @@ pub record TellsPage
     pub decided : IsTrue (is_decided answer) ↔ IsPageOf order entry s.dword0 s.dword1 page
     pub no_match : (answer ≡ NoMatch) ↔ ¬ IsPageOf order entry s.dword0 s.dword1 page
 
--- The answer to an access of a page tells whether an entry is one of it, for each entry of the
+-- The answer to an access of a page shows whether an entry is one of it, for each entry of the
 -- page's group for the access's H.
 abbrev pub AccessTellsPage : Type 0
 AccessTellsPage =
@@ -100,7 +101,7 @@ WalksUseTheirPage =
     → IsTrial is_no_match (walk_calls order page mode) rs
     → AllByRecursion (λ (r : Receipt). IsTrue (is_decided r.answer) → WasOfPage order page r) rs
 
--- A hit by a line of the page, whose entry stands in the page's group, used the translation of an
+-- A hit by a line of the page, whose entry is in the page's group, used the translation of an
 -- entry of the page.
 abbrev pub HitsUseTheirPage : Type 0
 HitsUseTheirPage =
@@ -132,7 +133,7 @@ IsRefusedByMask (Some seg) a name (Some r) =
     × (mask_against r.before a.masks a.want ≡ Some name)
 IsRefusedByMask segment a name found = ⊥
 
--- An access ends refused by a mask exactly where the last of its receipts, and the first that
+-- An access ends refused by a mask exactly if the last of its receipts, and the first that
 -- doesn't say NoMatch, is of such an entry.
 abbrev pub MaskedExactlyWhereRefused : Type 0
 MaskedExactlyWhereRefused =

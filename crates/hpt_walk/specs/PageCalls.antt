@@ -1,4 +1,4 @@
--- The calls of a walk, as the code has them.
+-- The calls of a walk, listed from the two groups and the two operations that the code keeps.
 use Rattle.std.specs.Prelude.{List, ◌++◌}
 use Rattle.entry_model.specs.Trial.{Call}
 use Rattle.hpt_walk.specs.Walk.{group_calls}

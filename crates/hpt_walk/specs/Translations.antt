@@ -39,14 +39,14 @@ abbrev pub is_paired : List Translation → VirtualPage → ℕ → Bool
 is_paired ts page entry =
     list_any (λ (t : Translation). same_page t.page page && (t.entry == entry)) ts
 
--- ---- a cached line
+-- ---- a cached translation
 -- The line's doublewords translate its page: they have the page's tag and base size, with V, and H
 -- as it is.
 pub record TranslatesItsPage (line : Line) : Type 0 where
   pub tag : tag_of line.page + h_bit (is_secondary line.dword0) + 1 ≡ compared_bits line.dword0
   pub size : IsTrue (has_base line.dword0 line.dword1 line.page.shift)
 
--- The line's entry stands in its page's primary group, or with H in its doubleword 0 in the
+-- The line's entry is in its page's primary group, or with H in its doubleword 0 in the
 -- secondary one.
 abbrev pub StandsInItsGroup : ℕ → Line → Type 0
 StandsInItsGroup order line =

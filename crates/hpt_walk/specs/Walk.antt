@@ -16,8 +16,7 @@ use Rattle.entry_model.specs.Reply.{AccessMode}
 abbrev pub h_bit : Bool → ℕ
 h_bit secondary = if secondary then 2 else 0
 
--- The access of a page by an entry: the tag has V, and H where the entry stands in the secondary
--- group.
+-- The access of a page by an entry: the tag has V, and H where the entry is in the secondary group.
 abbrev pub access_op : VirtualPage → AccessMode → Bool → Op
 access_op page mode secondary =
     Access

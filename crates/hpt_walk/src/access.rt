@@ -1,3 +1,5 @@
+//! The operation that an access makes on an entry, built from the page's tag, H, the segment's key
+//! and the processor's masks.
 ghost use Rattle.std.specs.Prelude.{◌≡◌};
 ghost use Rattle.entry_model.specs.Receipt.{IsNormal};
 ghost use Rattle.hpt_walk.specs.Walk as table;
@@ -9,7 +11,7 @@ use hpte_fields::{SECONDARY, VALID};
 use power_addr::Page;
 use storage_prot::Want;
 
-/// The access of a page by one of its entries: `secondary` says whether the entry stands in the
+/// The access of a page by one of its entries: `secondary` says whether the entry is in the
 /// page's secondary group, `key` is the segment's key for the state of the processor, `no_execute`
 /// says whether the segment refuses instruction fetches, and `masks` are the processor's.
 #[inline(always)]

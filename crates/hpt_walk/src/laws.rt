@@ -1,9 +1,10 @@
-//! Laws of the accesses of a page. Each function does nothing, and its contract is the law.
+//! Laws of accesses and walks: which entries they use, what they change, what masks refuse, and
+//! what can be cached. Each function does nothing, and its contract is the law.
 
 ghost use Rattle.hpt_walk.specs.Laws.{AccessTellsPage, OtherPagesDontMatch, AddressesLieInActualPages, WalksUseTheirPage, HitsUseTheirPage, OnlyAtChangesEntries, MaskedExactlyWhereRefused, ZeroMasksRefuseNoAccess, WalkFindsFirst, WalksGiveLines, LinesMatchAccesses, CurrentLinesDecide};
 
 /// An access of a page, made on an entry of one of the page's two groups with H to match, answers
-/// NoMatch exactly where the entry isn't one of the page.
+/// NoMatch exactly if the entry isn't one of the page.
 pub fn access_tells_page()
     ensures { AccessTellsPage }
 {}
@@ -26,7 +27,7 @@ pub fn walks_use_their_page()
     ensures { WalksUseTheirPage }
 {}
 
-/// A hit by a line whose entry stands in its page's group uses an entry that was one of the page.
+/// A hit by a line whose entry is in its page's group uses an entry that was one of the page.
 pub fn hits_use_their_page()
     ensures { HitsUseTheirPage }
 {}
@@ -36,7 +37,7 @@ pub fn only_at_changes_entries()
     ensures { OnlyAtChangesEntries }
 {}
 
-/// An access ends refused by a mask exactly where protection allows it by the entry that it ended
+/// An access ends refused by a mask exactly if protection allows it by the entry that it ended
 /// with, and the mask refuses it for the entry's key.
 pub fn masked_exactly_where_refused()
     ensures { MaskedExactlyWhereRefused }

@@ -1,7 +1,11 @@
 //! The walk of a hashed page table: the search of a page's two groups, over any store of entries.
 //!
 //! Power ISA 2.07 Book III-S, hashed page table search. What the reply to an access is, by a cached
-//! line or by a walk, is defined here too (`specs/Access.antt`).
+//! translation or by a walk, is defined here too (`specs/Access.antt`).
+//!
+//! Main contracts: `walk`: the receipts of a walk, and the one found; `access_tells_page`,
+//! `other_pages_dont_match`, `addresses_lie_in_actual_pages`, `hits_use_their_page`,
+//! `walk_finds_first`.
 #![tactic(auto)]
 
 mod access;

@@ -1,3 +1,5 @@
+//! The logical address that an access reaches by an entry, whose actual page size says how many
+//! bits are those of the effective address.
 ghost use Rattle.std.specs.Prelude.{◌≡◌, ◌≤◌, ◌<◌, ◌^◌, ◌%◌};
 ghost use Rattle.hpt_walk.specs.Access as access;
 

@@ -1,3 +1,5 @@
+//! A walk as a list of at most sixteen calls, each computed from the page's two groups when it is
+//! asked for.
 ghost use Rattle.hpte_fields.specs.TableSize.{IsTableOrder, greatest_order, group_count};
 ghost use Rattle.std.specs.Prelude.{◌≡◌, ◌<◌};
 ghost use Rattle.entry_model.specs.Receipt.{is_no_match};

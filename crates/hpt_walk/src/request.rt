@@ -1,3 +1,4 @@
+//! One access of a processor to memory, before it is translated.
 use authority_mask::Masks;
 use storage_prot::Want;
 

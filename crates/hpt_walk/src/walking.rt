@@ -1,3 +1,5 @@
+//! The walk over a store of entries: the groups of a page are searched, the primary one first, and
+//! each entry tried makes a receipt.
 ghost use Rattle.std.specs.Prelude.{◌≡◌, ◌≤◌, ◌<◌, ◌-◌, ◌+◌, ◌*◌, ◌++◌, ◌↔◌, length, IsNone, IfSome};
 ghost use Rattle.hpte_fields.specs.TableSize.{entry_count, greatest_order, group_count};
 ghost use Rattle.entry_model.specs.Reply.{access_mode};
@@ -55,8 +57,8 @@ pub fn walk<T: EntryStore>(
     WalkAnswer { found, receipts }
 }
 
-/// Makes the walk that `walk` makes, with its receipts in place of what is in `receipts`. Gives
-/// back the receipt of the entry that translates the page: the last one, which says At, Masked or
+/// Makes the walk that `walk` makes, and replaces what is in `receipts` by its receipts. Gives back
+/// the receipt of the entry that translates the page: the last one, which says At, Masked or
 /// Denied.
 #[tactic(auto, unfolding(crate::specs::Walk::walk_calls))]
 pub fn walk_into<T: EntryStore>(

@@ -1,4 +1,5 @@
--- The fields of an entry's two doublewords.
+-- The fields of an entry's two doublewords, their change by H_PROTECT, and the words that H_ENTER
+-- stores.
 use Rattle.std.specs.Prelude.{not, ◌+◌, ℕ, ◌/◌, ◌%◌, ◌^◌, ◌*◌, ◌==◌, ◌||◌, bit_and, bit_or, Bool, Option, Some, None, if◌then◌else◌, nat_lt, is_none}
 use Rattle.page_sizes.specs.Sizes.{size_of}
 
@@ -48,7 +49,7 @@ tag_field dword0 = bit_and dword0 tag_mask
 abbrev pub is_bolted : ℕ → Bool
 is_bolted dword0 = bit_and dword0 bolted_bit == bolted_bit
 
--- H: the entry stands in its page's secondary group.
+-- H: the entry is in its page's secondary group.
 abbrev pub is_secondary : ℕ → Bool
 is_secondary dword0 = bit_and dword0 secondary_bit == secondary_bit
 

@@ -1,7 +1,9 @@
+//! Masks of V, H, the software bit, the tag, R, C and the reserved bit in an entry's doublewords.
+
 /// V, in doubleword 0: the entry is valid.
 pub const VALID: u64 = 0x01;
 
-/// H, in doubleword 0: the entry stands in its page's secondary group.
+/// H, in doubleword 0: the entry is in its page's secondary group.
 pub const SECONDARY: u64 = 0x02;
 
 /// The software bit of doubleword 0 by which a guest marks an entry that is to stay.

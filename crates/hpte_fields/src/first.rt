@@ -1,3 +1,5 @@
+//! The fields that are read from doubleword 0 of a page table entry: the tag, H, the bit of bolted
+//! entries, and B.
 ghost use Rattle.std.specs.Prelude.{◌≡◌};
 ghost use Rattle.hpte_fields.specs.Fields.{tag_field, is_secondary, is_bolted, is_one_tb};
 
@@ -10,7 +12,7 @@ pub fn tag_of(dword0: u64) -> u64
     dword0 & TAG
 }
 
-/// Whether the entry stands in its page's secondary group (H).
+/// Whether the entry is in its page's secondary group (H).
 pub fn secondary(dword0: u64) -> bool
     ensures { result ≡ is_secondary dword0 }
 {

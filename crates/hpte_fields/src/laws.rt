@@ -1,4 +1,5 @@
-//! The public constants. The function does nothing, and its contract is the law.
+//! The public constants are the bits, masks and numbers of the definitions. The function does
+//! nothing, and its contract is the law.
 
 ghost use Rattle.std.specs.Prelude.{◌≡◌};
 ghost use Rattle.hpte_fields.specs.TableSize.{greatest_architected_order, greatest_order, group_size, least_order};

@@ -1,6 +1,9 @@
 //! The fields of the two doublewords of a page table entry, in the layout of
 //! Power ISA 2.07 Book III-S, section 5.7.7.1, which the hypervisor calls of LoPAR use, and the
 //! size of a table of such entries.
+//!
+//! Main contracts: each reader is its field; `normal`: the words that H_ENTER stores, which it
+//! gives back unchanged; `protected`: H_PROTECT's fields.
 #![tactic(auto)]
 
 mod bits;

@@ -1,3 +1,4 @@
+//! The fields that are read from doubleword 1 of a page table entry, and its change by H_PROTECT.
 ghost use Rattle.std.specs.Prelude.{◌≡◌, ◌<◌};
 ghost use Rattle.hpte_fields.specs.Fields.{wimg_of, frame_of, pp_of, key_of, is_no_execute, protected_word};
 

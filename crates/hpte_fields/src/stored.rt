@@ -1,3 +1,5 @@
+//! The form in which entries are stored: V is set, the bits of the hypervisor and the reserved bit
+//! are clear, and B and the page size are valid.
 ghost use Rattle.std.specs.Prelude.{◌≡◌, Some, IfSome};
 ghost use Rattle.hpte_fields.specs.Fields.{normal_words};
 

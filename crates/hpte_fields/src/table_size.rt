@@ -1,3 +1,4 @@
+//! Which orders a hashed page table may have, and how many entries it then has.
 ghost use Rattle.std.specs.Prelude.{◌≡◌, ◌≤◌};
 ghost use Rattle.hpte_fields.specs.TableSize as table;
 

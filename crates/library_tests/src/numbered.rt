@@ -1,3 +1,5 @@
+//! Lines given to a trace reader one at a time, with their numbers: what each gives, and that a
+//! refused one changes nothing.
 use frame_grants::{Grant, Kind};
 use std::process::Abort;
 use std::test::Fail;
@@ -54,7 +56,7 @@ fn take_given(rt: &impl Abort, reader: &mut TraceReader<'static>) -> Result<(), 
     Ok(())
 }
 
-/// What a reader tells behind the lines of [`GIVEN`].
+/// What a reader answers after the lines of [`GIVEN`].
 fn check_reader(rt: &impl Abort, reader: &TraceReader<'_>) {
     assert_eq!(rt; (reader.is_running(), reader.lines()), (true, 2));
     assert_eq!(rt; reader.grants().list().len(), 1);
@@ -79,7 +81,7 @@ fn numbered_lines_give_a_trace(rt: HostRuntime) -> Result<(), Fail> {
     Ok(())
 }
 
-/// Refused lines in this order, the reason of each, and the grant that is told.
+/// Refused lines in this order, the reason of each, and the grant that is named.
 const REFUSED: &[(u32, &str, Why, Option<Grant>)] = &[
     (1, "\x7f", Why::Ascii, None),
     (2, "begin\r\r", Why::Ascii, None),
@@ -123,7 +125,7 @@ fn a_refused_line_changes_nothing(rt: HostRuntime) -> Result<(), Fail> {
     Ok(())
 }
 
-/// What the words of a line that names a pool tell.
+/// What is known from the words of a line that names a pool.
 fn check_words(rt: &impl Abort, words: &[&[u8]]) -> Result<(), Fail> {
     assert_eq!(rt; words.len(), 3);
     assert_eq!(rt; (is_setting(words), is_remark_line(words)), (true, false));

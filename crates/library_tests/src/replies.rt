@@ -1,3 +1,4 @@
+//! Replies of a trace that are kept: their text, the lines of a dump, and what a summary counts.
 use entry_model::{EntryState, HReply};
 use papr_codes::Rc;
 use reply_text::{put_reply, summary_of, text_of};

@@ -1,3 +1,5 @@
+//! Traces of several partitions over one pool: the kept replies have the text of a run that keeps
+//! none.
 use lpar_set::{SetTrace, parse_set, run_set, set_text, set_to_text};
 use std::alloc::Global;
 use std::fmt::Write;

@@ -1,3 +1,4 @@
+//! A trace that is parsed as a whole: its configuration, and the value of each kind of line.
 use bus_window::Window;
 use std::process::Abort;
 use std::test::Fail;

@@ -43,7 +43,7 @@ AreLow m fs =
     → slice_get m.entries e ≡ Some x
     → front_at (fronts_of fs j) e ≤ pair_of x.published
 
--- A list of fronts in place of an actor's.
+-- Another list of fronts for one actor.
 set_low :
     (m : Machine) (fs : List (List ℕ)) (i : ℕ) (f : List ℕ)
     → AreLow m fs

@@ -42,7 +42,7 @@ pub record EntryOk (x : Entry) : Type 0 where
   pub shut : x.control.shut ≡ true → x.control.locked ≡ true
   pub low : x.control.stamp < 2 ^ 32
 
--- What a holder noted is the word but for the bits, and what it loaded is there.
+-- What a holder noted is the word except for the bits, and what it loaded is there.
 pub record HeldOk (d : Doing) (x : Entry) : Type 0 where
   pub locked : x.control.locked ≡ true
   pub free : x.control.shut ≡ false

@@ -1,4 +1,4 @@
--- A receipt that a step makes stands behind those that its actor has made.
+-- A receipt that a step makes is put after those that its actor has made.
 use Rattle.std.specs.Prelude.{if◌then◌else◌}
 use Rattle.std.proofs.Common.{◌≡◌, ◌⊎◌, inl, inr, ℕ, true, false, [], ◌∷◌, ◌++◌, ap, ◌∙◌, Some, None}
 use Rattle.std.proofs.lemmas.Bool.{cases_Bool}

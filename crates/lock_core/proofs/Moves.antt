@@ -43,7 +43,7 @@ phase_stays e (Held d) x y on ok free looks = absurd (free on)
 phase_stays e (HeldShut d) x y on ok free looks = absurd (free on)
 phase_stays e (Looked d) x y on ok free looks = looks d on ok
 
--- ---- what a step tells of the state that its entry counts with
+-- ---- what a step shows of the state that its entry counts with
 -- Without a receipt it stays; a receipt leads from the old state to the new one.
 abbrev pub Tells : ℕ → State → Option Receipt → State → Type 0
 Tells e before None after = after ≡ before
@@ -235,7 +235,7 @@ pub record Change (m : Machine) (e i : ℕ) (x : Entry) (a : Actor) (t : StepRes
   pub before : (e' : ℕ) → HoldsEntry e' a.phase → e' ≡ e
   pub tells : Tells e x.published t.made t.entry.published
 
--- The machine with an entry and an actor in place of the old ones.
+-- The machine with an entry and an actor instead of the old ones.
 abbrev pub put_both : Machine → ℕ → Entry → ℕ → Actor → Machine
 put_both m e x i a =
     record { opening = m.opening; entries = set m.entries e x; actors = set m.actors i a }

@@ -20,7 +20,7 @@ use Rattle.lock_core.proofs.Lists.{at_set, set_else, set_found, set_again, same_
 abbrev pub with_actors : Machine → List Actor → Machine
 with_actors m actors = record m { actors = actors }
 
--- The line stands in the list of some actor.
+-- The line is one of some actor's list.
 abbrev IsAnyones : List Actor → Sighting → Type 0
 IsAnyones actors l =
     (j : ℕ) × (n : ℕ) × (b : Actor) × (slice_get actors j ≡ Some b) × (slice_get b.lines n ≡ Some l)

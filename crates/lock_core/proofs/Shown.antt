@@ -18,7 +18,7 @@ same_sighting r line at = λ i. record {
   dword1 = sym at.dword1 i;
 }
 
--- A line that a receipt shows stands in the list of the lines that they show.
+-- A line that one of the receipts shows is one of the lines that they show.
 pub shown_line :
     (rs : List Receipt) (line : Line)
     → ShowsLine line rs

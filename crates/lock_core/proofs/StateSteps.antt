@@ -36,7 +36,7 @@ state_there [] e x h = cc
 state_there (z ∷ zs) zero x h = cc
 state_there (z ∷ zs) (suc e) x h = state_there zs e x h
 
--- What a step on an entry tells of the list of states.
+-- What a step on an entry does to the list of states.
 abbrev IsTold : List State → Option Receipt → List State → Type 0
 IsTold old made new = MatchOption made (new ≡ old) (λ r. IsStep old r new)
 

@@ -1,5 +1,5 @@
--- The fronts of actors along a list of steps: for each actor, for each entry, the pair that it has
--- come to.
+-- The fronts of actors along a list of steps: for each actor and entry, the pair that it has come
+-- to.
 use Rattle.std.specs.Prelude.{ℕ, List, [], ◌∷◌, length, replicate, slice_index_or, slice_set, if◌then◌else◌, Option, Some, None}
 use Rattle.entry_model.specs.declared.receipt.Receipt.{Receipt}
 use Rattle.entry_model.specs.Fronts.{opening_fronts, fronts_after, larger}

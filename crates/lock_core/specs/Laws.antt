@@ -40,7 +40,7 @@ StatesAreInWords =
     → (let x : Entry = entry_at (run (opening_machine states actors) steps) e in
     x.control.shut ≡ false → x.published ≡ state_of x.control x.dword0 x.dword1)
 
--- A step that makes a receipt leaves the state after in place of the state before, and every other
+-- A step that makes a receipt leaves the state after instead of the state before, and every other
 -- state as it is; a step that makes none leaves all states.
 abbrev pub StatesChangeByReceipts : Type 0
 StatesChangeByReceipts =
@@ -77,7 +77,7 @@ EveryReceiptKeepsItsFront =
     → made_by (run (opening_machine states actors) older) i step ≡ Some r
     → IsAhead (fronts_of (run_fronts (opening_machine states actors) older) i) r
 
--- The receipt that a step makes stands behind those that its actor has made before.
+-- The receipt that a step makes stands after those that its actor has made before.
 abbrev pub EveryReceiptIsListed : Type 0
 EveryReceiptIsListed =
     (m : Machine) (i : ℕ) (step : Step) (r : Receipt)
@@ -94,7 +94,7 @@ sighting_by line = record {
   dword1 = line.dword1;
 }
 
--- The actor has seen the line: it stands in its list, or holds of its entry's opening state.
+-- The actor has seen the line: it is one of its list, or holds of its entry's opening state.
 abbrev pub HasSeen : Machine → ℕ → Line → Type 0
 HasSeen m i line =
     Contains (actor_at m i).lines (sighting_by line) ⊎ Holds line (opening_at m line.entry)

@@ -11,12 +11,12 @@ use Rattle.lock_core.specs.declared.phase.Phase.TheVariants.{Idle, Held, HeldShu
 use Rattle.lock_core.specs.declared.sighting.Sighting.{Sighting}
 use Rattle.lock_core.specs.Words.{unheld_entry}
 
--- An actor: whether it is live, where it stands in its operation, the receipts that it made, and
--- the lines that it has seen.
+-- An actor: whether it is live, the phase of its operation, the receipts that it made, and the
+-- lines that it has seen.
 pub record Actor : Type 0 where
   pub live : Bool
   pub phase : Phase
-  -- in the order of their making; those that a join brought stand behind those that were there
+  -- in the order of their making; those that a join brought come after those that were there
   pub receipts : List Receipt
   pub lines : List Sighting
 

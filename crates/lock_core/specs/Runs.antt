@@ -1,4 +1,4 @@
--- Lists of steps, and what they leave.
+-- Lists of steps: the machine after them, and the receipts of all its actors.
 use Rattle.std.specs.Prelude.{ℕ, List, [], ◌∷◌, ◌++◌}
 use Rattle.entry_model.specs.declared.receipt.Receipt.{Receipt}
 use Rattle.lock_core.specs.declared.step.Step.{Step}

@@ -17,7 +17,7 @@ use Rattle.lock_core.specs.declared.doing.Doing.{Doing}
 use Rattle.lock_core.specs.declared.entry.Entry.{Entry}
 
 -- ---- the state of words
--- A second data word without R and C, which stand in the control word.
+-- A second data word without R and C, which are bits of the control word.
 abbrev pub without_bits : ℕ → ℕ
 without_bits dword1 = bit_xor dword1 (bit_and dword1 rc_bits)
 

@@ -1,3 +1,5 @@
+//! An actor of the protocol: its phase, the receipts that it has, and the translations that it has
+//! seen.
 use crate::phase::Phase;
 use crate::sighting::Sighting;
 use entry_model::Receipt;
@@ -11,7 +13,7 @@ pub const MOST_ACTORS: u32 = 64;
 pub struct Actor {
     /// It takes steps: it was split off and not joined since, or it was there first.
     pub live: bool,
-    /// Where it stands in its operation.
+    /// How far its operation has come.
     pub phase: Phase,
     /// The receipts that it made, and those that joins brought.
     pub receipts: Vec<Receipt>,

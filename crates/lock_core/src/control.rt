@@ -1,3 +1,5 @@
+//! The parts of an entry's control word: lock, shut, valid, R, C and stamp.
+
 /// The control word of an entry, read as its parts.
 #[derive(Clone, Copy, PartialEq, Eq, Debug)]
 pub struct Control {
@@ -11,6 +13,6 @@ pub struct Control {
     pub referenced: bool,
     /// C: the page was changed.
     pub changed: bool,
-    /// How often the entry has changed, but for R and C that accesses set.
+    /// How often the entry has changed; the R and C that accesses set don't count.
     pub stamp: u32,
 }

@@ -1,3 +1,5 @@
+//! An operation under way: the control word that its actor noted, and the doublewords that it
+//! loaded or had seen.
 ghost use Rattle.std.specs.Prelude.{◌≡◌, Some};
 ghost use Rattle.lock_core.specs.Steps.{new_doing, with_noted as noted_by};
 

@@ -1,3 +1,5 @@
+//! A page table entry of the machine: its words in memory, and the state that its receipts so far
+//! lead to.
 use crate::control::Control;
 use entry_model::EntryState;
 

@@ -1,3 +1,5 @@
+//! The causes for which a machine isn't made or a step is refused.
+
 /// Why a core wasn't made, or a step not taken.
 #[derive(Clone, Copy, PartialEq, Eq, Debug)]
 pub enum CoreError {

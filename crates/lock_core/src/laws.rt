@@ -8,8 +8,8 @@ pub fn states_are_in_words()
     ensures { StatesAreInWords }
 {}
 
-/// A step that makes a receipt leaves the receipt's state after in place of its state before, and
-/// no other step changes the state that an entry counts with.
+/// A step that makes a receipt replaces the receipt's state before by its state after, and no other
+/// step changes the state that an entry counts with.
 pub fn states_change_by_receipts()
     ensures { StatesChangeByReceipts }
 {}
@@ -25,7 +25,7 @@ pub fn every_receipt_keeps_its_front()
     ensures { EveryReceiptKeepsItsFront }
 {}
 
-/// The receipt that a step makes stands behind the receipts that its actor has.
+/// The receipt that a step makes is put after the receipts that its actor has.
 pub fn every_receipt_is_listed()
     ensures { EveryReceiptIsListed }
 {}

@@ -6,6 +6,10 @@
 //! processor takes no lock: it looks at the control word, and sets R and C where it finds that word
 //! again. `specs/Steps.antt` has the table of steps. Nothing here takes a step: `entry_lock` takes
 //! them on atomic words, and `lock_machine` one after another on a table of its own.
+//!
+//! Main contracts: laws of every list of steps, such as `every_history_is_legal`,
+//! `seen_lines_hold`; `state_of`, `receipt`: the state of words, and the receipt as far as an actor
+//! knows.
 #![tactic(auto)]
 
 mod actor;

@@ -1,6 +1,8 @@
+//! The phases of an actor: at no operation, with a lock, with a shut entry, or after the first look
+//! of an access.
 use crate::doing::Doing;
 
-/// Where an actor stands.
+/// How far an actor's operation has come.
 #[derive(Clone, Copy, PartialEq, Eq, Debug)]
 pub enum Phase {
     /// It is at no operation.

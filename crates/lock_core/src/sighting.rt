@@ -1,3 +1,5 @@
+//! What an actor keeps of a valid entry that it has seen: index, stamp and doublewords.
+
 /// An entry as an actor has seen it, valid and with these doublewords at this stamp: a cached
 /// translation without its page.
 #[derive(Clone, Copy, PartialEq, Eq, Debug)]

@@ -1,3 +1,5 @@
+//! The atomic steps of the protocol: those of hypervisor calls, those of accesses, and splits and
+//! joins.
 use entry_model::Op;
 
 /// One atomic step of an actor, on one word of one entry; a split or a join is on none.

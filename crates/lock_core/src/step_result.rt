@@ -1,3 +1,5 @@
+//! The outcome of a step on an entry: its words, the actor's phase, and a receipt where an
+//! operation ended.
 use crate::entry::Entry;
 use crate::phase::Phase;
 use entry_model::Receipt;

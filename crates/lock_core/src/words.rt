@@ -1,3 +1,5 @@
+//! What the words of an entry mean: the state that they stand for, and the receipt that an actor
+//! makes of the words it knows.
 ghost use Rattle.std.specs.Prelude.{◌≡◌};
 ghost use Rattle.basics.specs.Words.{bool_eq};
 ghost use Rattle.entry_model.specs.History.{state_eq};

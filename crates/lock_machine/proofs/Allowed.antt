@@ -1,4 +1,4 @@
--- What the code of a split and of a join is told where the step is allowed.
+-- What the code of a split and of a join may rely on where the step is allowed.
 use Rattle.std.specs.Prelude.{is_none}
 use Rattle.std.proofs.Common.{◌≡◌, ◌≢◌, ℕ, ◌<◌, ◌==◌, true, length, sym, ap, ◌∙◌, subst, Option, None, eq-eqb}
 use Rattle.std.proofs.lemmas.Bool.{and_parts, false≢true, ltb-true, not-true}

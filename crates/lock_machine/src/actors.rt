@@ -1,3 +1,5 @@
+//! Actors of the machine: how they begin, take up a receipt with the translation that it shows, and
+//! join.
 ghost use Rattle.std.specs.Prelude.{◌≡◌, [], ◌∷◌, ◌++◌, IfOk, OnOk, OnErr, IfNone, IsOk, IsOkUnless};
 ghost use Rattle.std.specs.Option.{option_to_list};
 ghost use Rattle.lock_core.specs.Machine.{nobody as nobody_of, newcomer as newcomer_of, shown_sightings, sighting_of};

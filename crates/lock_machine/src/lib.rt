@@ -3,6 +3,8 @@
 //!
 //! `lock_core` says what a step does. Here a step is code whose contract is that table of steps, so
 //! that a list of steps can be tried and looked at. No part of the program runs it.
+//!
+//! Main contracts: `Core::step` is the table of steps, and says why a step isn't taken.
 #![tactic(auto)]
 
 mod actors;

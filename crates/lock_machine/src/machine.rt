@@ -1,3 +1,5 @@
+//! The machine itself: the checks that allow or refuse a step, and the step on its entries and
+//! actors.
 ghost use Rattle.std.specs.Prelude.{◌≡◌, ◌≢◌, ◌<◌, ◌==◌, ◌||◌, [], length, map, replicate, slice_set, nat_lt, true, Err, IfOk, OnOk, OnErr, IfNone, IsOk, IsTrue, IsOkUnless, MatchBool, MatchOption};
 ghost use Rattle.lock_core.specs.Words.{unheld_entry as quiet_entry_of};
 ghost use Rattle.lock_core.specs.Machine.{most_actors, opening_machine, nobody as nobody_of, newcomer as newcomer_of, actor_at, opening_at as opening_of, in_table as is_in_table, words_seen as seen_words_of};
@@ -122,7 +124,7 @@ impl Core {
         }
     }
 
-    /// Where an actor stands; one that isn't there is idle.
+    /// The phase of an actor; one that isn't there is idle.
     fn phase_of(&self, actor: u32) -> Phase
         ensures { result ≡ (actor_at self.now actor).phase }
     {
@@ -336,8 +338,8 @@ impl Core {
         }
     }
 
-    /// The receipts of an actor, in the order of their making; those that a join brought stand
-    /// behind those that were there.
+    /// The receipts of an actor, in the order of their making; those that a join brought come
+    /// after those that were there.
     pub fn receipts(&self, actor: u32) -> &[Receipt]
         requires { actor < length self.now.actors }
         ensures { result.now ≡ (actor_at self.now actor).receipts }

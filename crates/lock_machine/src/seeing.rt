@@ -1,3 +1,5 @@
+//! The doublewords of an entry at a stamp, by the translations that an actor has seen and by the
+//! opening state.
 ghost use Rattle.std.specs.Prelude.{◌≡◌, find};
 ghost use Rattle.lock_core.specs.Machine.{words_seen_in as seen_in_of, words_at as words_at_of, is_at as is_at_of};
 

@@ -1,3 +1,5 @@
+//! Each step on an entry as code: in which phase it fits, and what it leaves of the entry and of
+//! the actor.
 ghost use Rattle.std.specs.Prelude.{◌≡◌, true, false, None, if◌then◌else◌};
 ghost use Rattle.lock_core.specs.Steps.{entry_of as entry_by, fits as fits_of, result_without_receipt as going_on, result_with_receipt as ending, with_loaded as loaded_of, with_stored as stored_of, second_look as second_look_of, step_result as result_by, new_doing as begun_by, with_noted as noting_of, shut_entry, locked_entry, settled_entry, marked_entry};
 ghost use Rattle.lock_core.specs.Words.{receipt as receipt_of, next_state as next_of, is_noted as is_noted_of};

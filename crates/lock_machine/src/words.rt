@@ -1,3 +1,5 @@
+//! What steps ask of an entry's words: whether they are known, as noted, or stored, and the state
+//! that an operation leads to.
 ghost use Rattle.std.specs.Prelude.{◌≡◌, is_some};
 ghost use Rattle.lock_core.specs.Words as words;
 

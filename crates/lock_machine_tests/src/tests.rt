@@ -217,7 +217,7 @@ fn another_entry_at_the_mark(rt: HostRuntime) -> Result<(), Fail> {
 }
 
 /// Two readers and a writer: the readers' words are those of before, the second lock finds the
-/// entry taken, and a join brings the receipts of the other actor behind those that are there.
+/// entry taken, and a join brings the receipts of the other actor after those that are there.
 #[test]
 fn two_readers_and_a_writer(rt: HostRuntime) -> Result<(), Fail> {
     let mut core = machine(rt.alloc())?;

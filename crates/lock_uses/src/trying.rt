@@ -1,4 +1,4 @@
-//! A hypervisor call on a table whose entries may be busy, made anew while it is held up.
+//! A hypervisor call on a table whose entries may be busy, made again while it is held up.
 ghost use Rattle.std.specs.Prelude.{IfSome};
 ghost use Rattle.entry_model.specs.Trial.{IsReplyOf};
 ghost use Rattle.call_plan.specs.Plans.{plan_of, Fits};

@@ -1,4 +1,4 @@
--- The readings of a set behind a line of one partition: that partition's is told anew, and the
+-- The readings of a set after a line of one partition: that partition's is replaced, and the
 -- others stay.
 use Rattle.std.specs.Prelude.{unwrap_or}
 use Rattle.std.proofs.Common.{◌≡◌, ◌≢◌, ◌∙◌, ℕ, ◌<◌, List, length, get_or, Option, Some, None, ap}

@@ -22,8 +22,8 @@ use Rattle.lpar_set.proofs.MovedLines.{MayDiffer, line_like}
 use Rattle.lpar_set.proofs.OneStore.{replies_on as serial_from}
 
 -- ---- one partition
--- What the partition carries is what the run carries, but for the places, and the run has its pool
--- to itself, which is as large as the shared one.
+-- What the partition carries is what the run carries, except for the places, and the run has its
+-- pool to itself, which is as large as the shared one.
 pub record IsLike (w : SetState) (k : ℕ) (u : Store) : Type 0 where
   pub pool : PoolState
   pub place : ℕ

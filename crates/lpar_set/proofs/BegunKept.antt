@@ -28,7 +28,7 @@ pub record Begins (r : SetReading) (number order : ℕ) (new : Reading) : Type 0
   pub same : new.config.order ≡ order
   pub none : new.lines ≡ []
 
--- The set with the partition behind those that had begun.
+-- The set with the partition after those that had begun.
 abbrev pub with_begun : SetReading → ℕ → ℕ → Reading → SetReading
 with_begun r number order new =
     told r number new (r.begun ++ number ∷ []) (with_opening r.tables order) r.turns

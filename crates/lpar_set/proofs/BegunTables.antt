@@ -4,7 +4,7 @@ use Rattle.std.proofs.Common.{◌≡◌, ◌≢◌, ℕ, List, [], ◌∷◌, �
 use Rattle.hpt_pool.specs.Pool.{PoolState, lowest_place}
 use Rattle.lpar_set.specs.OpeningTables.{HasRoomFor, with_opening, with_openings}
 
--- One more table takes its block behind the others.
+-- One more table takes its block after the others.
 pub openings_push :
     (pool : PoolState) (orders : List ℕ) (order : ℕ)
     → with_openings pool (orders ++ order ∷ []) ≡ with_opening (with_openings pool orders) order

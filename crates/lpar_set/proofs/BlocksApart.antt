@@ -100,7 +100,7 @@ turned : (xs ys : List Block) → AllAcross BeginApart xs ys → AllAcross Begin
 turned xs ys across =
     λ j e at_other. λ i d at_one. λ same. across i d at_one j e at_other (sym same)
 
--- The others stand before and behind those that are replaced.
+-- The others stand before and after those that are replaced.
 pub held_after :
     (taken own taken_after own_after before behind : List Block)
     → Replaces taken own taken_after own_after

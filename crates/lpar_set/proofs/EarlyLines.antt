@@ -1,4 +1,4 @@
--- A configuration line behind run lines: it is refused for its place, by the set or by the
+-- A configuration line after run lines: it is refused for its place, by the set or by the
 -- partition's own reading.
 use Rattle.std.proofs.Common.{◌≡◌, ℕ, true, false, List, [], ◌∷◌, length, ltb, if◌then◌else◌, Result, Ok, Err, refl, sym, ap, ◌∙◌, ◌⊎◌, inl, inr}
 use Rattle.std.proofs.lemmas.Bool.{cases_Bool, eqb-true, false≢true}
@@ -17,7 +17,7 @@ use Rattle.trace_read.specs.Whys.{◌>>=◌, guard}
 use Rattle.lpar_set.specs.SetGrammar.{SetReading, reading_of, after_own, after_member}
 use Rattle.lpar_set.specs.SetRead.{is_early}
 
--- ---- behind `begin`
+-- ---- after `begin`
 never_comes :
     (form : Form) (stage : Stage)
     → is_setting_form form ≡ true

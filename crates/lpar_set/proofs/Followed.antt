@@ -222,7 +222,7 @@ remark_followed before r s line is sound few remark same =
       ordered = counted_ordered r is.ordered;
     })
 
--- `shared`, behind remarks alone.
+-- `shared`, after remarks alone.
 shared_followed :
     (before : List (List ℕ)) (r s : SetReading) (line : List ℕ) (pool : ℕ × ℕ)
     → IsFollowed before r

@@ -116,7 +116,7 @@ unfolding set_of after_set_lines after_set_line after_set_words after_allowed af
     row_of lowest_place multiples taken_with
 refused_word = refl
 
--- What is of the whole, behind whatever word.
+-- What is of the whole, after whatever word.
 refused_shared_pool : set_of (codes "shared pool 1\n") ≡ Err (1, whys.Lpar)
 unfolding set_of after_set_lines after_set_line after_set_words after_allowed after_numbered_words
     with_shared after_member after_own with_given after_text after_words after_form form_of

@@ -349,7 +349,7 @@ run_given c ws = by (cases_Bool (is_remark ws)) where
   by (inl q) = rw (q, formless ws q) refl
   by (inr q) = rw q (if_runs (form_of ws) c ws)
 
--- What it adds, told by its words.
+-- What it adds, by its words.
 pub member_added :
     (r s : SetReading) (number : ℕ) (new : Reading) (c : Configuration) (ws : List (List ℕ))
     → with_given r number (reading_of r number) new (given_of c ws) ≡ Ok s

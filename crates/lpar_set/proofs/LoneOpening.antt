@@ -1,4 +1,4 @@
--- How a partition opens beside others, and with the pool to itself.
+-- How a partition opens in a pool that others share, and with the pool to itself.
 use Rattle.std.proofs.Common.{◌≡◌, ◌≢◌, ℕ, false, zero, suc, ◌+◌, ◌-◌, ◌*◌, ◌^◌, ◌<◌, ◌≤◌, List, [], ◌∷◌, length, get_or, Contains, None, refl, ap, inl, ◌⊎◌, arith}
 use Rattle.std.proofs.lemmas.Nat.{pow_pos}
 use Rattle.std.proofs.lemmas.List.Elements.{All-nil}
@@ -62,8 +62,8 @@ opens_alone c range large small =
           (All-nil (λ (b : Block). (b ≡ block) ⊎ ⊥)) (inl refl);
     }
 
--- ---- beside others
--- It opens over whatever the partitions before it left, and but for its place as alone.
+-- ---- in a pool that others share
+-- It opens over whatever the partitions before it left, and as alone except for its place.
 pub opens_like :
     (whole left : PoolState) (c : Configuration)
     →

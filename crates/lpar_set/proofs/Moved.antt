@@ -1,5 +1,5 @@
 -- A run whose blocks lie elsewhere: each line but a PREPARE that needs a table answers the same,
--- and leaves the same but for the places.
+-- and leaves the same except for the places.
 use Rattle.std.specs.Prelude.{option_map}
 use Rattle.std.proofs.Common.{◌≡◌, ℕ, List, Option, Some, None, refl, sym, subst}
 use Rattle.papr_codes.specs.declared.codes.Rc.{Rc}
@@ -42,8 +42,8 @@ abbrev pub moved : Store → PoolState → ℕ → ℕ → Store
 moved v pool place other = record v { memory = moved_memory v.memory pool place other }
 
 -- ---- a line
--- The second reply is the first but for the place in a dump, and what the run carries after it is
--- the same but for the places.
+-- The second reply is the first except for the place in a dump, and what the run carries after it
+-- is the same except for the places.
 pub record IsLikeAfter (x y : Reply × Store) : Type 0 where
   pub reply : without_place y.0 ≡ without_place x.0
   pub pool : PoolState

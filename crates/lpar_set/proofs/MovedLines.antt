@@ -1,5 +1,5 @@
--- Each line of a partition beside others is answered as it would be with the pool to itself, but
--- for the place in a dump, until a PREPARE is refused for lack of room.
+-- Each line of a partition that shares its pool is answered as it would be with the pool to itself,
+-- except for the place in a dump, until a PREPARE is refused for lack of room.
 use Rattle.std.specs.Prelude.{slice_index}
 use Rattle.std.proofs.Common.{◌≡◌, ℕ, true, false, List, refl, inl, inr, ◌⊎◌, subst, sym}
 use Rattle.std.proofs.lemmas.Bool.{cases_Bool}

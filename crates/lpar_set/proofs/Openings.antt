@@ -47,7 +47,7 @@ placed_in pool order sound large room =
           (λ other clear. apart_places block other clear) pool.taken fit.apart;
     }
 
--- Blocks that were held stay so beside it.
+-- Blocks that were held stay so next to it.
 pub with_one :
     (pool : PoolState) (order : ℕ) (blocks : List Block)
     → IsPlacedIn pool order

@@ -127,7 +127,7 @@ is_own forms.Entry = false
 is_own forms.Window = false
 is_own other = true
 
--- What a configuration line tells is what the reading has behind it.
+-- What a configuration line says is what the reading has after it.
 set_moves :
     (given : Given) (r : Reading) (stage : Stage) (said : Result Configuration Why) (s : Reading)
     →

@@ -25,7 +25,7 @@ one_taken (x ∷ xs) q r s line e more =
     ap (λ said. said >>= (λ t. after_all t (xs ++ line ∷ []))) first.first
     ∙ one_taken xs first.value r s line first.rest more
 
--- The trace of lines behind those that were read.
+-- The trace of lines after those that were read.
 pub lines_on :
     (xs ys : List (List ℕ)) (q r : Reading)
     → after_all q xs ≡ Ok r
@@ -45,7 +45,7 @@ unfolding after_lines
 lines_end r = refl
 
 -- ---- where lines are refused
--- The number that is told.
+-- The number of the line that is refused.
 number_told : Result AcceptedTrace (ℕ × Why) → ℕ
 number_told (Ok t) = 0
 number_told (Err x) = x.0
@@ -70,7 +70,7 @@ refused_by number n why (Err other) f each e =
     let same : number ≡ n = ap number_told e in
     omega (arith, same)
 
--- A line that is refused stands behind those that were read.
+-- A line that is refused stands after those that were read.
 pub refused_behind :
     (ys : List (List ℕ)) (r : Reading) (n : ℕ) (why : Why)
     → after_lines r ys ≡ Err (n, why)

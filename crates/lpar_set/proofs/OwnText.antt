@@ -1,4 +1,4 @@
--- A partition's line without its first word: text of the words behind it.
+-- A partition's line without its first word: text of the words after it.
 use Rattle.std.specs.List.{list_all, slice_split, onto_first}
 use Rattle.std.proofs.Common.{◌≡◌, ◌∙◌, ℕ, ◌+◌, ◌-◌, ◌<◌, ◌≤◌, Bool, true, false, List, [], ◌∷◌, length, filter, get_or, Ok, refl, sym, ap, eqb, not, ◌&&◌, inl, inr, ◌⊎◌, arith}
 use Rattle.std.specs.Prelude.{codes}

@@ -79,7 +79,7 @@ taken_running all begun i o inside is running other =
     (each_within (IsRunningAt all other) begun i 0 (running other) inside)
 
 -- ---- one partition more
--- The readings of the numbers behind it are still there.
+-- The readings of the numbers after it are still there.
 pub more_left :
     (all now : List (Option Reading)) (begun : List ℕ) (i index : ℕ) (o : Option Reading)
     → AreLeft all now begun i

@@ -55,7 +55,7 @@ own_so r number o old ws (Ok new) = given_so r number o old new (given_of old.co
 own_so r number o old ws (Err why) = ap Err (refusal_so r number o why (refused_grant why ws))
 
 -- ---- a line by the partition's own reading
--- An accepted line of a partition, whose new reading stands in the list.
+-- An accepted line of a partition, whose new reading is in the list.
 own_taken :
     (r s : SetReading) (number : ℕ) (old new : Reading) (ws : List (List ℕ)) (given : Given)
     (result : Result (Unit {0}) Stop)
@@ -66,8 +66,8 @@ unfolding after_own
 own_taken r s number old new ws given result said is taken =
     rw (said, ← is, ← given_so r number (Some new) old new given) taken
 
--- ---- a line of a partition whose reading stands among the others
--- A reading that stands in the list is the same as before.
+-- ---- a line of a partition whose reading is among the others
+-- A reading that is in the list is the same as before.
 opened_same :
     (r : SetReading) (number : ℕ)
     → number < length r.readings
@@ -124,7 +124,7 @@ by_given r (givens.Begin order) old new moves low high place =
     record { order_fits = (omega arith, omega arith); place = place moves.before }
 by_given r givens.Run old new moves low high place = tt
 
--- A `begin` asks for a table of the partition's order, behind a partition that has not begun.
+-- A `begin` asks for a table of the partition's order, and its partition had not begun.
 may_be_given :
     (r : SetReading) (old new : Reading) (ws : List (List ℕ)) (given : Given)
     → is_of_the_whole ws ≡ false

@@ -1,4 +1,4 @@
--- Before each line the readings are ready for it, and behind it all holds that held.
+-- Before each line the readings are ready for it, and after it all holds that held.
 use Rattle.std.specs.Prelude.{OnOk}
 use Rattle.std.proofs.Common.{ℕ, ◌+◌, ◌<◌, ◌≤◌, List, Result, Ok, Err, arith}
 use Rattle.trace_read.specs.declared.stop.Stop.{Stop}

@@ -1,4 +1,4 @@
--- A set's reading, where one partition's is told anew: what holds of the whole, by its parts.
+-- A set's reading, where one partition's is replaced: what holds of the whole, by its parts.
 use Rattle.std.specs.List.{AllByRecursion, AllPairs, range_with_len}
 use Rattle.std.proofs.Common.{◌≡◌, ◌≢◌, ℕ, ◌<◌, ◌≤◌, true, List, length, map, get_or, Option, Some, None, refl, sym, ap, ◌∙◌, subst, inl, inr, ◌⊎◌}
 use Rattle.std.proofs.lemmas.Bool.{cases_eq, false≢true}
@@ -16,13 +16,13 @@ use Rattle.lpar_set.proofs.GrantsApart.{pairs_set, strangers_back}
 use Rattle.lpar_set.proofs.SetPlaces.{beside_set, same_reading, other_reading}
 use Rattle.basics.proofs.Each.{each_map}
 
--- The set with a partition's reading told anew, and with these partitions begun, these tables and
+-- The set with a partition's reading replaced, and with these partitions begun, these tables and
 -- these turns.
 abbrev pub told : SetReading → ℕ → Reading → List ℕ → PoolState → List Turn → SetReading
 told r number new begun tables turns =
     record (with_reading r number new) { begun = begun; tables = tables; turns = turns }
 
--- The new reading stands beside the pool, and its grants apart from those of other partitions.
+-- The new reading has the pool of the set, and its grants are apart from those of other partitions.
 pub record IsRetold (r : SetReading) (number : ℕ) (new : Reading) : Type 0 where
   pub inside : number < length r.readings
   pub beside : IsBeside r.pool_base r.pool_order r.taken new
@@ -76,7 +76,7 @@ strangers_told r number new is retold =
     rw (get_or_default r.readings k d None inside)
     (apart, strangers_back new.config.granted.grants (grants_read (reading_at r k)) apart))
 
--- A set that is read anew of one partition is sound, where its parts about those that began hold.
+-- A set that is read again of one partition is sound, where its parts about those that began hold.
 pub retold_is :
     (r : SetReading) (number : ℕ) (new : Reading) (begun : List ℕ) (tables : PoolState)
     (turns : List Turn)
@@ -166,7 +166,7 @@ steady_orders r number new tables turns is inside steady =
     (each_map (HasBegun r) (λ m. order_of (told r number new r.begun tables turns) m ≡ order_of r m)
     r.begun (λ m begun. steady_order r number m new inside steady begun) is.begun.running)
 
--- A set stays sound when one reading is told anew that has as many run lines as before.
+-- A set stays sound when one reading is replaced by one that has as many run lines.
 pub steady_keeps :
     (r : SetReading) (number : ℕ) (new : Reading)
     → IsSetReading r

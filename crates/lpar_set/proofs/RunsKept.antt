@@ -20,7 +20,7 @@ abbrev pub next_turn : SetReading → ℕ → Turn
 next_turn r number =
     record { partition = begun_at r.begun number; line = length (reading_of r number).lines }
 
--- The set with that turn behind the others.
+-- The set with that turn after the others.
 abbrev pub with_turn : SetReading → ℕ → Reading → SetReading
 with_turn r number new = told r number new r.begun r.tables (r.turns ++ next_turn r number ∷ [])
 

@@ -49,7 +49,7 @@ ended_by true true t s why e =
 ended_by true false t s why e = absurd (never_ok why s e)
 ended_by false begun t s why e = absurd (never_ok why s e)
 
--- A set that was told at the end is what was read.
+-- A set that is given at the end is what was read.
 pub has_ended : (r : SetReading) (s : AcceptedSet) → set_at_end r ≡ Ok s → HasEnded r s
 has_ended r s e =
     let x = ended_by (list_any is_some r.readings) (list_all has_begun r.readings) (set_read r) s _

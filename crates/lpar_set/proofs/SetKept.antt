@@ -45,7 +45,7 @@ sized_member w low is = record {
 }
 
 -- ---- the blocks of all
--- Those of the partitions before one, its own, and those of the partitions behind.
+-- Those of the partitions before one, its own, and those of the partitions after.
 pub held_set :
     (members : List MemberState) (k : ℕ) (m : MemberState)
     → k < length members

@@ -1,4 +1,4 @@
--- The readings of a set, where one partition's is told anew.
+-- The readings of a set, where one partition's is replaced.
 use Rattle.std.specs.Prelude.{unwrap_or}
 use Rattle.std.specs.List.{AllByRecursion}
 use Rattle.std.specs.Option.{IfSome}
@@ -12,7 +12,7 @@ use Rattle.lpar_set.specs.SetGrammar.{SetReading, grants_read, reading_of, with_
 use Rattle.lpar_set.specs.SetReadings.{HasBegun, IsBeside, IsSetReading, reading_at}
 
 -- ---- a reading and the others
--- The reading that was told anew is the partition's.
+-- The reading that was put in is the partition's.
 pub same_reading :
     (r : SetReading) (number : ℕ) (new : Reading)
     → number < length r.readings
@@ -66,7 +66,7 @@ beside_option base order taken None is =
     }
 beside_option base order taken (Some reading) is = is
 
--- The reading of a number stands beside the pool, also where it doesn't occur yet.
+-- The reading of a number has the set's pool, also where it doesn't occur yet.
 pub is_beside :
     (r : SetReading) (m : ℕ)
     → IsSetReading r
@@ -95,7 +95,7 @@ pub grants_there :
     (r : SetReading) (m : ℕ) → grants_read (reading_at r m) ≡ (reading_of r m).config.granted.grants
 grants_there r m = grants_option r.pool_base r.pool_order (reading_at r m)
 
--- One more reading that stands beside the pool.
+-- One more reading that has the set's pool.
 pub beside_set :
     (readings : List (Option Reading)) (number base order taken : ℕ) (new : Reading)
     → IsBeside base order taken new

@@ -42,7 +42,7 @@ use Rattle.lpar_set.proofs.SmallSet.{storage, storage_at, prepares, turn, small_
 use Rattle.trace_reply.specs.declared.reply.Reply.TheVariants as replies
 
 -- ---- the beginning
--- The tables open one behind the other, and fill the pool.
+-- The tables open one after the other, and fill the pool.
 opening_places :
     map (λ (m : MemberState). m.table.place)
     (opening_members (no_blocks 0x1000000000 19) small_set.partitions)

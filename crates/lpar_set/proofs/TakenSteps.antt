@@ -3,7 +3,7 @@ use Rattle.std.proofs.Common.{◌≡◌, Bool, true, false, Option, Some, None, 
 use Rattle.trace_read.specs.declared.why.Why.{Why}
 use Rattle.trace_read.specs.Whys.{◌>>=◌, guard, required}
 
--- What was told is one thing.
+-- What was answered is one thing.
 pub same_ok : {A : Type 0} (said : Result A Why) (x y : A) → said ≡ Ok x → said ≡ Ok y → x ≡ y
 same_ok said x y first second = cc
 
@@ -32,12 +32,12 @@ pub guard_taken :
 guard_taken true why done e = refl
 guard_taken false why done e = absurd (never_ok why done e)
 
--- The test holds, and what comes behind it ends so.
+-- The test holds, and what comes after it ends so.
 pub record IsPassed {B : Type 0} (test : Bool) (said : Result B Why) (end : B) : Type 0 where
   pub holds : test ≡ true
   pub rest : said ≡ Ok end
 
--- What went on behind a test passed it.
+-- What went on after a test passed it.
 pub behind_guard :
     {B : Type 0} (test : Bool) (why : Why) (said : Result B Why) (end : B)
     → (guard test why >>= (λ (done : Unit {0}). said)) ≡ Ok end
@@ -51,12 +51,12 @@ pub required_taken :
 required_taken (Some y) why x e = ap Some (same_ok (Ok y) y x refl e)
 required_taken None why x e = absurd (never_ok why x e)
 
--- A test refused, or what comes behind it.
+-- A test refused, or what comes after it.
 pub data IsStopped {B : Type 0} (test : Bool) (first why : Why) (said : Result B Why) : Type 0 where
   at_test : test ≡ false → first ≡ why → IsStopped test first why said
   behind_test : test ≡ true → said ≡ Err why → IsStopped test first why said
 
--- What was refused behind a test was refused by it, or later.
+-- What was refused after a test was refused by it, or later.
 pub guard_stopped :
     {B : Type 0} (test : Bool) (first why : Why) (said : Result B Why)
     → (guard test first >>= (λ (done : Unit {0}). said)) ≡ Err why

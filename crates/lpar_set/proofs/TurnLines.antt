@@ -20,7 +20,7 @@ other_turn k turns t other =
     filter-append (λ (t : Turn). eqb t.partition k) turns (t ∷ [])
     ∙ rw (ne_eqb t.partition k other) (append-nil (turns_of k turns))
 
--- A turn of this partition comes behind its others.
+-- A turn of this partition comes after its others.
 pub own_turn :
     (k : ℕ) (turns : List Turn) (t : Turn)
     → t.partition ≡ k
@@ -29,7 +29,7 @@ own_turn k turns t same =
     filter-append (λ (t : Turn). eqb t.partition k) turns (t ∷ [])
     ∙ rw (eq-eqb t.partition k same) refl
 
--- A partition behind all that have turns has none.
+-- A partition after all that have turns has none.
 pub no_turns :
     (k : ℕ) (turns : List Turn)
     → AllByRecursion (λ (t : Turn). t.partition < k) turns

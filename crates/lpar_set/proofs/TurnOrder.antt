@@ -42,7 +42,7 @@ pub record AreOrdered (r : SetReading) : Type 0 where
       (k : ℕ) (d : Turn) → k < length r.turns → (turn_line r (get_or r.turns k d)).number ≤ r.taken
 
 -- ---- what a line of a partition does to the run lines
--- One more of this number, behind `begin`, or none.
+-- One more of this number, after `begin`, or none.
 abbrev pub Grows : Bool → Reading → Reading → Type 0
 Grows true old new =
     (is_running old.stage ≡ true)

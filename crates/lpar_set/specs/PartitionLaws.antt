@@ -20,7 +20,7 @@ use Rattle.trace_line.specs.Lines.{most_lines}
 -- ---- accepted sets
 -- The set over the shared pool whose partitions are those that begin, in the order of their `begin`
 -- lines, and all that a line names; each has the trace that its own lines give, read as an input of
--- their own beside that pool; and the turns are the run lines in file order.
+-- their own over that pool; and the turns are the run lines in file order.
 pub record IsSetOf (lines : List (List ℕ)) (s : AcceptedSet) : Type 0 where
   pub base : s.pool_base ≡ (shared_pool lines).0
   pub order : s.pool_order ≡ (shared_pool lines).1
@@ -39,7 +39,7 @@ abbrev pub SetsAreOfTheirLines : Type 0
 SetsAreOfTheirLines =
     (bytes : List ℕ) (s : AcceptedSet) → set_of bytes ≡ Ok s → IsSetOf (raw_lines bytes) s
 
--- Lines have one set at most: what is said of it here tells it.
+-- Lines have one set at most: what is said of it here determines it.
 abbrev pub LinesHaveOneSet : Type 0
 LinesHaveOneSet =
     (lines : List (List ℕ)) (s t : AcceptedSet)
@@ -50,7 +50,7 @@ LinesHaveOneSet =
     → s ≡ t
 
 -- ---- refused lines
--- What a line behind these may be refused for beside what its partition's own trace says of it.
+-- What a line after these may be refused for apart from what its partition's own trace says of it.
 pub data IsAgainstSet (before : List (List ℕ)) (line : List ℕ) : Why → Type 0 where
   -- 2 ^ 17 lines have come before.
   past : most_lines ≤ length before → IsAgainstSet before line whys.Lines
@@ -79,7 +79,7 @@ pub data IsAgainstSet (before : List (List ℕ)) (line : List ℕ) : Why → Typ
       → is_shared (words_in line) ≡ true
       → pool_named (words_in line) ≡ Err why
       → IsAgainstSet before line why
-  -- A configuration line of a partition behind a run line of any.
+  -- A configuration line of a partition after a run line of any.
   early :
       (number : ℕ)
       → is_line_of number line ≡ true
@@ -114,13 +114,13 @@ pub data IsAgainst (bytes : List ℕ) : ℕ → Why → Type 0 where
       → list_any (is_line_of number) (raw_lines bytes) ≡ true
       → own_trace (raw_lines bytes) number ≡ Err (n, why)
       → IsAgainst bytes n why
-  -- The line may not stand in the set.
+  -- The line is not allowed in the set.
   apart :
       (before rest : List (List ℕ)) (line : List ℕ) (why : Why)
       → raw_lines bytes ≡ before ++ line ∷ rest
       → IsAgainstSet before line why
       → IsAgainst bytes (length before + 1) why
-  -- No line names a partition: told one past the last.
+  -- No line names a partition: refused one line past the last.
   none :
       ((number : ℕ) → number < 8 → list_any (is_line_of number) (raw_lines bytes) ≡ false)
       → IsAgainst bytes (length (raw_lines bytes) + 1) whys.Begin

@@ -1,5 +1,5 @@
--- The lines of one partition of a set as an input of their own, and what all lines of a set say by
--- themselves.
+-- The lines of one partition of a set as an input of their own. Also what all lines of a set say by
+-- themselves: the shared pool, which partitions begin, and which lines are run lines.
 use Rattle.std.specs.Prelude.{ℕ, ◌&&◌, Bool, false, true, List, [], ◌∷◌, map, filter_map, codes, is_some, Option, None, Result, Ok, Err, if◌then◌else◌}
 use Rattle.std.specs.Str.{bytes_eq}
 use Rattle.hpt_pool.specs.Pool.{PoolState, no_blocks}
@@ -31,7 +31,7 @@ abbrev pub from_blank : List ℕ → List ℕ
 from_blank [] = []
 from_blank (c ∷ cs) = if is_blank c then c ∷ cs else from_blank cs
 
--- The bytes behind the first word.
+-- The bytes after the first word.
 abbrev pub behind_word : List ℕ → List ℕ
 behind_word [] = []
 behind_word (c ∷ cs) = if is_blank c then behind_word cs else from_blank cs
@@ -42,7 +42,7 @@ abbrev pub first_number : List (List ℕ) → Option ℕ
 first_number [] = None
 first_number (w ∷ ws) = number_of w
 
--- The words behind the first.
+-- The words after the first.
 abbrev pub own_words : List (List ℕ) → List (List ℕ)
 own_words [] = []
 own_words (w ∷ ws) = ws
@@ -52,7 +52,7 @@ abbrev pub is_line_of : ℕ → List ℕ → Bool
 is_line_of number line = is_number number (first_number (words_in line))
 
 -- ---- the lines of one partition
--- A line of the partition without its first word, and a remark in place of each other line.
+-- A line of the partition without its first word, and a remark instead of each other line.
 abbrev pub own_line : ℕ → List ℕ → List ℕ
 own_line number line =
     if is_line_of number line then behind_word (without_cr line) else codes "#"
@@ -86,7 +86,7 @@ shared_pool [] = unnamed_pool
 shared_pool (l ∷ ls) = if is_remark_line l then shared_pool ls else pool_in (words_in l)
 
 -- ---- the trace of one partition
--- Before the first line of a trace beside the shared pool of these lines.
+-- Before the first line of a trace over the shared pool of these lines.
 abbrev pub own_start : List (List ℕ) → Reading
 own_start lines = reading_beside (shared_pool lines).0 (shared_pool lines).1
 

@@ -99,7 +99,7 @@ with_reading r number reading = record r {
   readings = slice_set r.readings number (Some reading);
 }
 
--- Where a partition stands in the order of `begin` lines.
+-- The place of a partition in the order of `begin` lines.
 abbrev pub begun_at : List ℕ → ℕ → ℕ
 begun_at begun number = position_or_len (λ n. n == number) begun
 
@@ -160,12 +160,12 @@ after_numbered_words r w ws = do
   number ← partition_named w
   after_member r number ws
 
--- After a line with this first word and these behind it.
+-- After a line with this first word and these after it.
 abbrev pub after_first_word : SetReading → List ℕ → List (List ℕ) → Result SetReading Why
 after_first_word r w ws =
     if bytes_eq (codes "shared") w then with_shared r (w ∷ ws) else after_numbered_words r w ws
 
--- After a line with this first word and these behind it, where the second may stand there.
+-- After a line with this first word and these after it, where the second is allowed.
 unfoldable pub after_allowed : SetReading → List ℕ → List (List ℕ) → Result SetReading Why
 after_allowed r w ws = do
   allowed ← guard (not (is_of_the_whole ws)) whys.Lpar
@@ -212,7 +212,7 @@ set_at_end r =
     })
     else Err (r.taken + 1, whys.Begin)
 
--- A refusal is told with the number of its line.
+-- A refusal has the number of its line.
 abbrev pub set_go_on :
     ℕ
     → Result SetReading Why

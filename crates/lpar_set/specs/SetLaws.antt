@@ -1,4 +1,4 @@
--- What is promised of the run of a set.
+-- What the run of a set assures each partition: replies as if alone, up to the first H_NO_MEM.
 use Rattle.std.specs.Prelude.{◌≡◌, ◌≢◌, ℕ, ◌<◌, ◌==◌, Bool, true, false, IsTrue, List, [], ◌∷◌, length, map, take, if◌then◌else◌, Contains}
 use Rattle.std.specs.List.{AllByRecursion}
 use Rattle.papr_codes.specs.declared.codes.Rc.{Rc}

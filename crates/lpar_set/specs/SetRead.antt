@@ -22,7 +22,7 @@ TakesTo said (Ok done) new = said ≡ Ok new
 TakesTo said (Err stops.Memory) new = Unit {0}
 TakesTo said (Err (stops.Refused why)) new = said ≡ Err why
 
--- A refusal is told with the number of its line.
+-- A refusal has the number of its line.
 abbrev pub stop_error : ℕ → Stop → TraceError
 stop_error line (stops.Refused why) = errors.Line line why
 stop_error line stops.Memory = errors.Memory
@@ -38,13 +38,13 @@ pub record IsReady (r : SetReading) : Type 0 where
       → is_running (reading_of r number).stage ≡ false
       → length r.begun < 8
 
--- A configuration line behind a run line of another partition, while its own has not begun. Once
+-- A configuration line after a run line of another partition, while its own has not begun. Once
 -- that has, its own reading refuses such a line.
 abbrev pub is_early : SetReading → ℕ → List (List ℕ) → Bool
 is_early r number ws =
     (nat_lt 0 (length r.turns) && not (is_running (reading_of r number).stage)) && is_setting ws
 
--- The reading of a partition stands among the others, whether a line has named it or not.
+-- The reading of a partition is among the others, whether a line has named it or not.
 abbrev pub with_own : SetReading → ℕ → SetReading
 with_own r number = record r { readings = slice_set r.readings number (Some (reading_of r number)) }
 

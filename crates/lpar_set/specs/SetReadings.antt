@@ -11,8 +11,8 @@ use Rattle.lpar_set.specs.SetTrace.{AreStrangers, turns_of}
 use Rattle.lpar_set.specs.SetGrammar.{SetReading, reading_of, grants_read}
 use Rattle.trace_line.specs.Lines.{most_lines}
 
--- A partition's reading stands beside this pool, opens with no entry, has no window, has no run
--- line before its `begin`, and has taken no line behind the last.
+-- A partition's reading has this pool, opens with no entry, has no window, has no run
+-- line before its `begin`, and has taken no line after the last.
 pub record IsBeside (pool_base pool_order taken : ℕ) (reading : Reading) : Type 0 where
   pub base : reading.config.granted.pool_base ≡ pool_base
   pub order : reading.config.granted.pool_order ≡ pool_order
@@ -48,7 +48,7 @@ pub record AreBegun (r : SetReading) : Type 0 where
 abbrev pub count_at : SetReading → ℕ → ℕ
 count_at r k = length (reading_of r (slice_index_or r.begun k 8)).lines
 
--- The eight readings stand beside one pool; no grant of one meets one of another in machine memory;
+-- The eight readings have one pool; no grant of one meets one of another in machine memory;
 -- the tables of those that have begun take their blocks one after the other; and each partition's
 -- turns are its run lines in their order.
 pub record IsSetReading (r : SetReading) : Type 0 where

@@ -15,8 +15,8 @@ use Rattle.lpar_set.specs.declared.turn.Turn.{Turn}
 use Rattle.lpar_set.specs.OpeningTables.{opening_place, with_opening}
 use Rattle.lpar_set.specs.SetTrace.{NumberedTrace, AcceptedSet, line_of}
 
--- All that one partition carries from line to line, but for the pool: its grants, the highest order
--- that it may ask for, the table that is being prepared, the current one, and its processors.
+-- All that one partition carries from line to line, except for the pool: its grants, the highest
+-- order that it may ask for, the table that is being prepared, the current one, and its processors.
 pub record MemberState : Type 0 where
   pub grants : List Grant
   pub limit : ℕ
@@ -39,7 +39,7 @@ with_pool pool m = record {
   processors = m.processors;
 }
 
--- What a run carries of a partition but for the pool.
+-- What a run carries of a partition except for the pool.
 abbrev pub without_pool : Store → MemberState
 without_pool w = record {
   grants = w.grants;

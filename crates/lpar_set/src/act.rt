@@ -1,3 +1,5 @@
+//! How a line of a partition of a set is run if it isn't quiet: a hypervisor call, an access, a
+//! change of segments or of a mask.
 ghost use Rattle.std.specs.Prelude.{◌≡◌, false, length, IfSome};
 ghost use Rattle.tlb_model.specs.Cache.{AllCached};
 ghost use Rattle.entry_model.specs.CachedLines.{AllLater};
@@ -47,7 +49,7 @@ pub fn run_act(
     apply_act(table, cpu, grants, act, slot);
 }
 
-/// Runs a line by what the calls and accesses themselves tell of their replies.
+/// Runs a line by what the calls and accesses themselves promise of their replies.
 fn apply_act(
     table: &mut PlainTable,
     cpu: &mut Cpu,
@@ -70,8 +72,8 @@ fn apply_act(
     ensures processor { cpu.new ≡ processor_after cpu.old act.now (reply_in slot.new) }
     ensures seen { AllCached (IsSeen table.new) cpu.new.cache }
 
-    // Of a cached line that was gone, the line's own receipts come later, and it is gone for the
-    // table.
+    // Of a cached translation that was gone, the line's own receipts come later, and it is gone for
+    // the table.
     ensures comes_later { IfSome
         (gone_line_of cpu.old act.now (reply_in slot.new))
         (λ line. AllLater line (receipts_in (reply_in slot.new))) }

@@ -22,7 +22,7 @@ pub fn lines_have_one_set()
     ensures { LinesHaveOneSet }
 {}
 
-/// What an input is refused for at a line may be said against it: the line may not stand in the
+/// What an input is refused for at a line may be said against it: the line is not allowed in the
 /// set, or a partition's own lines are refused there. An input against which anything may be said
 /// is refused, at that line or at one before it.
 pub fn refusals_are_of_their_lines()

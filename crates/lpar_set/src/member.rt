@@ -1,3 +1,5 @@
+//! One partition of a set: how it opens, and how its lines are run, quiet ones on the shared pool
+//! and all others by one of its processors.
 ghost use Rattle.std.specs.Prelude.{◌≡◌, ◌≢◌, ◌<◌, ◌-◌, ◌^◌, length, map, true, false, None, Contains, IfOk, OnOk, OnErr, if◌then◌else◌};
 ghost use Rattle.hpt_pool.specs.Pool.{PoolState, block_at, lowest_place};
 ghost use Rattle.hpt_resize.specs.Resize.{IsHeld};

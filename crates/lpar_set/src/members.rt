@@ -1,3 +1,5 @@
+//! All partitions of a set in one state: they open one after the other in the shared pool, and a
+//! line is run on the partition that it names.
 ghost use Rattle.std.specs.Prelude.{◌≡◌, ◌<◌, ◌-◌, ◌^◌, true, length, map, IfOk, OnOk, OnErr};
 ghost use Rattle.trace_line.specs.Lines.{is_quiet};
 ghost use Rattle.trace_reply.specs.Slots.{reply_in};

@@ -1,3 +1,5 @@
+//! From the bytes of an input to a set: the input is cut into lines, and a refusal has the number
+//! of its line.
 ghost use Rattle.std.specs.Prelude.{◌≡◌, IfOk};
 ghost use Rattle.trace_read.specs.Read.{IsParsed};
 ghost use Rattle.lpar_set.specs.SetTrace.{IsAcceptedSet};

@@ -1,3 +1,4 @@
+//! The run of a set as a list of all its replies.
 ghost use Rattle.std.specs.Prelude.{◌≡◌, length, IfOk};
 ghost use Rattle.lpar_set.specs.SetLaws.{IsSetAssured};
 ghost use Rattle.lpar_set.specs.SetRun.{opening_set, set_replies};

@@ -1,3 +1,4 @@
+//! The set of partitions that reading gives; its type keeps the limits of accepted sets.
 use crate::turn::Turn;
 use pool_range::PoolRange;
 use std::marker::Model;
@@ -68,7 +69,7 @@ impl SetTrace {
     ghost use Rattle.std.specs.Prelude.{◌≡◌, Contains};
     ghost use Rattle.lpar_set.specs.SetTrace.{IsAcceptedSet, partition_at, line_of};
 
-    /// Tells what each set has, and does nothing else.
+    /// States the limits that each set keeps, and does nothing else.
     pub fn keeps_limits(&self)
         ensures { IsAcceptedSet self.now }
     {

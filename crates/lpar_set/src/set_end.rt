@@ -1,3 +1,5 @@
+//! What is decided at the end of a set's input: whether each partition that occurs has begun, and
+//! the traces of these partitions.
 ghost use Rattle.std.specs.Prelude.{◌≡◌, ◌≢◌, ℕ, ◌&&◌, true, is_some, map, unwrap_or, IfOk};
 ghost use Rattle.std.specs.List.{list_all, list_any, AllByRecursion, AllPairs};
 ghost use Rattle.trace_read.specs.Grammar.{Reading};

@@ -1,3 +1,5 @@
+//! Reads a set line by line: each partition's lines by a trace reader of its own, and here what
+//! partitions share, the pool, machine memory and the order of lines.
 ghost use Rattle.std.specs.Prelude.{◌≡◌, ℕ, ◌<◌, ◌≤◌, ◌+◌, ◌^◌, ◌++◌, [], ◌∷◌, true, false, not, length, replicate, is_some, None, Some, Err, IsSome, IfOk, OnOk, MatchResult};
 ghost use Rattle.hpt_pool.specs.Pool.{lowest_place};
 ghost use Rattle.trace_read.specs.Grammar.{Reading, after_text};
@@ -120,7 +122,7 @@ impl<'a> SetReader<'a> {
         meets_stranger(self.readings.as_slice(), number, grant)
     }
 
-    // The reason that is told: a grant of another partition comes before the pool.
+    // The reason that is given: a grant of another partition comes before the pool.
     fn refusal_beside(&self, number: u8, why: Why, grant: Option<Grant>) -> Why
         ensures { result ≡ refusal_beside self.now number why grant }
     {
@@ -161,7 +163,7 @@ impl<'a> SetReader<'a> {
         Ok(())
     }
 
-    // Where a partition stands in the order of `begin` lines.
+    // The place of a partition in the order of `begin` lines.
     fn begun_at(&self, number: u8) -> u8
         ensures { result ≡ sets.begun_at self.now.begun number }
     {
@@ -187,7 +189,7 @@ impl<'a> SetReader<'a> {
         Ok(())
     }
 
-    // What an accepted line adds, behind so many run lines of its partition, whose reading has it.
+    // What an accepted line adds, after so many run lines of its partition, whose reading has it.
     #[tactic(auto, unfolding(crate::specs::SetGrammar::with_given))]
     fn add(&mut self, number: u8, line: u32, given: Given) -> Result<(), Stop>
         requires may { MayBeGiven self.old given }
@@ -206,7 +208,7 @@ impl<'a> SetReader<'a> {
         Ok(())
     }
 
-    // The partition's own reading stands among the others.
+    // The partition's own reading is one of the readings from here on.
     fn open(&mut self, alloc: Global, number: u8)
         requires { number < 8 }
         ensures { self.new ≡ with_own self.old number }
@@ -265,7 +267,7 @@ impl<'a> SetReader<'a> {
         }
     }
 
-    // Whether a configuration line comes behind a run line of another partition. Once its own has
+    // Whether a configuration line comes after a run line of another partition. Once its own has
     // begun its reading refuses it, so the form of most lines is looked at once.
     fn is_early(&self, number: u8, words: &[&[u8]]) -> bool
         requires { number < 8 }
@@ -370,7 +372,7 @@ impl<'a> SetReader<'a> {
         self.take_words(alloc, room)
     }
 
-    /// The set that the lines have given, or the missing `begin`, told one past the last line.
+    /// The set that the lines have given, or the missing `begin`, refused one line past the last.
     pub fn end(self, alloc: Global) -> Result<SetTrace, TraceError>
         requires sound { IsSetReading self }
         ensures parsed { IsParsed result (set_at_end self.entry) }

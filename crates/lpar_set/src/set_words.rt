@@ -1,3 +1,5 @@
+//! The words by which a line of a set differs from one of a single partition: the partition's
+//! number, and the words `pool`, `window` and `entry`, which are refused.
 ghost use Rattle.std.specs.Prelude.{◌≡◌, ◌<◌, IfOk};
 ghost use Rattle.trace_read.specs.TextLines.{texts};
 ghost use Rattle.lpar_set.specs.SetGrammar as sets;
@@ -15,7 +17,7 @@ pub fn partition_named(word: &[u8]) -> Result<u8, Why>
     }
 }
 
-/// Whether the first of the words behind a number is one that no line of a set may have there.
+/// Whether the first of the words after a number is one that no line of a set may have there.
 pub fn is_of_the_whole(words: &[&[u8]]) -> bool
     ensures { result ≡ sets.is_of_the_whole (texts words.now) }
 {

@@ -1,3 +1,4 @@
+//! Machine memory belongs to one partition of a set: whether a grant meets a grant of another one.
 ghost use Rattle.std.specs.Prelude.{◌≡◌, slice_set, None};
 ghost use Rattle.std.specs.List.{list_any};
 ghost use Rattle.lpar_set.specs.SetGrammar.{meets_any};

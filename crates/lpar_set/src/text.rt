@@ -1,3 +1,5 @@
+//! The text of a set's replies, each line of which begins with its partition's number; a run can
+//! write it without keeping the replies.
 ghost use Rattle.std.specs.Prelude.{◌≡◌, ◌++◌, length, IfOk, OnOk, string_bytes};
 ghost use Rattle.std.specs.List.{flat_map};
 ghost use Rattle.trace_reply.specs.Slots.{reply_in};
@@ -22,8 +24,8 @@ fn put_number(out: &mut String, number: u8) -> Result<(), AllocError>
     out.push_str(" ")
 }
 
-/// Appends the lines of entries, each behind the partition's number.
-fn put_entries(
+/// Appends the lines of entries, each with the partition's number before it.
+fn put_numbered_entries(
     out: &mut String,
     number: u8,
     entries: &[(u32, EntryState)],
@@ -40,8 +42,8 @@ fn put_entries(
     Ok(())
 }
 
-/// Appends the lines of a dump, that of the table and those of its entries, each behind the
-/// partition's number.
+/// Appends the lines of a dump, that of the table and those of its entries, each with the
+/// partition's number before it.
 fn put_dump(out: &mut String, number: u8, line: &TraceLine, shown: &Shown) -> Result<(), AllocError>
     ensures { OnOk
         result
@@ -50,10 +52,11 @@ fn put_dump(out: &mut String, number: u8, line: &TraceLine, shown: &Shown) -> Re
 {
     put_number(out, number)?;
     put_table(out, line.number, shown)?;
-    put_entries(out, number, shown.states.as_slice())
+    put_numbered_entries(out, number, shown.states.as_slice())
 }
 
-/// Appends the text of the reply to a line, each of its own lines behind the partition's number.
+/// Appends the text of the reply to a line, each of its own lines with the partition's number
+/// before it.
 fn put_numbered(
     out: &mut String,
     number: u8,
@@ -72,7 +75,8 @@ fn put_numbered(
     put_reply(out, line, reply)
 }
 
-/// Appends the text of the reply in the slot, each of its own lines behind the partition's number.
+/// Appends the text of the reply in the slot, each of its own lines with the partition's number
+/// before it.
 fn put_numbered_slot(
     out: &mut String,
     number: u8,
@@ -92,8 +96,8 @@ fn put_numbered_slot(
 }
 
 /// The text of replies to the lines of a set, in file order: a line for each, and for a dump a
-/// further one for each valid entry, each behind the number of its partition. The only error is
-/// want of memory.
+/// further one for each valid entry, each with the number of its partition before it. The only
+/// error is want of memory.
 pub fn set_text(alloc: Global, set: &SetTrace, replies: &Replies) -> Result<String, AllocError>
     requires { length set.now.turns ≡ length replies.now.items }
     ensures { IfOk

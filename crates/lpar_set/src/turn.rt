@@ -1,3 +1,5 @@
+//! How a set names its run lines in file order, although each partition keeps its own.
+
 /// A run line of a set: of which partition it is, as its place in the order of `begin` lines, and
 /// which of that partition's run lines it is, both counted from 0.
 #[derive(Clone, Copy, PartialEq, Eq, Debug)]

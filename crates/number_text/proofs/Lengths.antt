@@ -36,7 +36,7 @@ onto_short (suc k) n (suc m) acc small =
     either_short (eqb (n / 16) 0) front (digits_onto k 16 false (n / 16) front)
     (suc m + 1 + length acc) (omega arith) (omega (arith, rest))
 
--- In base 16 they have at most 8, behind `0x`.
+-- A number below 2 ^ 32 has at most 8 hexadecimal digits, which follow `0x`.
 pub hex_short : (n : ℕ) → n < 2 ^ 32 → length (hex n) ≤ 10
 unfolding digits
 hex_short n small =

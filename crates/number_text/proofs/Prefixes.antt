@@ -12,7 +12,7 @@ starts_before old more new starts =
     ∙ ap (take (length old)) starts
     ∙ take-append_seam old more
 
--- A text that starts with another still does with more behind it.
+-- A text that starts with another still does where more is appended to it.
 pub starts_still : (old new more : List ℕ) → StartsWith new old → StartsWith (new ++ more) old
 starts_still old new more starts =
     let shorter : length old ≤ length new = omega

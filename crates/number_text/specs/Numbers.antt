@@ -1,4 +1,4 @@
--- The text of an entry's index, a doubleword or an address.
+-- How an entry's index, a doubleword or an address is written: in hexadecimal digits after `0x`.
 use Rattle.std.specs.Prelude.{ℕ, false, List, ◌++◌, codes}
 use Rattle.std.specs.Fmt.{digits}
 

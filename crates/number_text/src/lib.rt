@@ -1,4 +1,6 @@
 //! The texts of numbers, byte for byte, and how much of a string's room a text takes.
+//!
+//! Main contracts: `put_hexadecimal`, `put_decimal`, `put_signed`: byte for byte.
 #![tactic(auto)]
 
 mod numbers;

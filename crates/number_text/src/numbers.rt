@@ -1,3 +1,5 @@
+//! Numbers in decimal and hexadecimal digits, appended to a string or written into bytes from the
+//! end backwards.
 ghost use Rattle.std.specs.Prelude.{◌≡◌, ◌+◌, ◌++◌, ◌<◌, ◌≤◌, false, length, drop, OnOk, OnErr, string_bytes};
 ghost use Rattle.std.specs.Fmt.{decimal, digit_glyph, digits, signed_decimal};
 ghost use Rattle.std.specs.Io.{StartsWith};
@@ -68,7 +70,7 @@ pub fn write_piece(piece: &str, text: &mut [u8], end: usize) -> usize
     start
 }
 
-/// Appends a text, and behind it `0x` and the number's lower-case hexadecimal digits, without
+/// Appends a text, and after it `0x` and the number's lower-case hexadecimal digits, without
 /// leading zeros.
 pub fn put_hexadecimal(out: &mut String, before: &str, number: u64) -> Result<(), AllocError>
     ensures text { OnOk
@@ -83,7 +85,7 @@ pub fn put_hexadecimal(out: &mut String, before: &str, number: u64) -> Result<()
     out.push_str(unsafe { std::str::from_utf8_unchecked(&text[start..]) })
 }
 
-/// Appends a text, and behind it the number's decimal digits.
+/// Appends a text, and after it the number's decimal digits.
 pub fn put_decimal(out: &mut String, before: &str, number: u64) -> Result<(), AllocError>
     ensures text { OnOk
         result
@@ -99,7 +101,7 @@ pub fn put_decimal(out: &mut String, before: &str, number: u64) -> Result<(), Al
     out.push_str(Buffer::new().format(number))
 }
 
-/// Appends a text, and behind it the number's decimal digits, with a minus sign where it is below
+/// Appends a text, and after it the number's decimal digits, with a minus sign where it is below
 /// zero.
 pub fn put_signed(out: &mut String, before: &str, number: i64) -> Result<(), AllocError>
     ensures text { OnOk

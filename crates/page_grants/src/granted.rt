@@ -1,3 +1,5 @@
+//! What a caller offers as granted memory: the machine address of a logical range. `Grants` is one
+//! such.
 ghost use Rattle.std.specs.Prelude.{◌≡◌, List};
 ghost use Rattle.frame_grants.specs.declared.grant.Grant.{Grant};
 ghost use Rattle.frame_grants.specs.Grants.{machine_range};

@@ -1,3 +1,5 @@
+//! The test of a page table entry against the grants: its whole page is in one grant, and its
+//! storage control bits suit main storage or a device there.
 ghost use Rattle.std.specs.Prelude.{◌≡◌, IfSome, Some};
 ghost use Rattle.hpte_fields.specs.Fields.{normal_words};
 ghost use Rattle.page_grants.specs.Suited as suited;
@@ -16,7 +18,7 @@ const COHERENT: u8 = 2;
 
 const GUARDED: u8 = 1;
 
-/// Whether the storage control bits suit what lies behind the page.
+/// Whether the storage control bits suit what the page maps.
 fn suits_kind(wimg: u8, kind: Kind) -> bool
     ensures { result ≡ suited.suits_kind wimg kind }
 {

@@ -1,3 +1,4 @@
+//! How L and the low bits of the real page number are read as a base and an actual page size.
 ghost use Rattle.std.specs.Prelude.{◌≡◌, ◌≢◌, ◌≤◌, IfSome, Some, Contains, IsTrue, bit_and};
 ghost use Rattle.page_sizes.specs.Sizes.{size_of, large_rows, Row, row_fits, size_in};
 

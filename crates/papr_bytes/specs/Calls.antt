@@ -1,4 +1,4 @@
--- What a call of the program on bytes in memory leaves.
+-- What a call of the program on bytes in memory answers, and leaves in the caller's room.
 use Rattle.std.specs.Prelude.{◌≡◌, ◌==◌, ◌⊎◌, ℕ, nat_le, if◌then◌else◌, List, [], ◌∷◌, ◌++◌, length, drop, map, Some, String, string_bytes}
 use Rattle.std.specs.Str.Lossy.{utf8_lossy}
 use Rattle.std.specs.declared.alloc.Global.{Global}
@@ -9,7 +9,7 @@ use Rattle.papr_top.specs.Ends.{Sides, EndsCommand}
 use Rattle.papr_bytes.specs.declared.call_end.CallEnd.{CallEnd}
 
 -- ---- words
--- A word, unless it is empty. Bytes that are no text stand for U+FFFD.
+-- A word, unless it is empty. Bytes that are no text become U+FFFD.
 abbrev pub word_of : List ℕ → List (List ℕ)
 word_of bytes = if length bytes == 0 then [] else utf8_lossy bytes ∷ []
 

@@ -1,3 +1,5 @@
+//! The program run on bytes in memory: its words and its input are the caller's, and its output is
+//! kept until its end and then put into the caller's room.
 ghost use Rattle.std.specs.Prelude.{◌≡◌, IfOk, OnErr};
 ghost use Rattle.papr_bytes.specs.Calls.{Called, IsCall, words_named};
 

@@ -1,3 +1,5 @@
+//! The end of a call for C: the program's status and the length of its output, or a status of its
+//! own where the room is too small for that.
 ghost use Rattle.std.specs.Prelude.{◌≡◌};
 ghost use Rattle.papr_bytes.specs.Calls.{handed, no_memory};
 

@@ -1,9 +1,11 @@
+//! The words of the program from the caller's bytes: empty ones are left out, and what is no UTF-8
+//! is replaced.
 ghost use Rattle.std.specs.Prelude.{◌≡◌, ◌++◌, OnOk, IfOk};
 ghost use Rattle.papr_bytes.specs.Calls.{spelt, word_of, words_named};
 
 use std::alloc::{AllocError, Global};
 
-/// Puts a word behind the others, unless it is empty.
+/// Puts a word after the others, unless it is empty.
 fn push_word(alloc: Global, words: &mut Vec<String>, word: &[u8]) -> Result<(), AllocError>
     ensures { OnOk result (spelt words.new.items ≡ spelt words.old.items ++ word_of word.now) }
 {

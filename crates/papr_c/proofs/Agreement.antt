@@ -1,4 +1,4 @@
--- A probe and a walk of the same entries tell the same but for R and C.
+-- A probe and a walk of the same entries find the same, except for R and C.
 use Rattle.std.specs.Prelude.{if◌then◌else◌}
 use Rattle.std.specs.Option.{option_map_or}
 use Rattle.std.proofs.Common.{◌≡◌, ℕ, Bool, true, false, Option, Some, None, refl, ap, sym, ◌∙◌, ◌⊎◌, inl, inr, bit_and, bit_or}

@@ -71,7 +71,7 @@ probed order a page want entries cs is =
     (found_as_is entries (walk_calls order page (mode_of a want))
     (calls_access order page (mode_of a want)))
 
--- What is told of it is what a probe tells.
+-- What C has of it is what a probe gives.
 pub probe_is :
     (order : ℕ) (a : PaprAccess) (page : VirtualPage) (want : Want) (entries : List State)
     (cs : List Call) (found : Option Receipt) (told : PaprWalk)

@@ -47,7 +47,7 @@ pub one_refused :
 one_refused granted index given d e inside refused =
     rw (drop-cons given index d inside, refused) refl
 
--- Behind the last grant the list is made.
+-- After the last grant the list is made.
 pub all_taken :
     (granted : GrantedMemory) (index : ℕ) (given : List PaprGrant)
     → length given ≤ index

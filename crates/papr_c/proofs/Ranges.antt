@@ -9,7 +9,7 @@ use Rattle.c_layout.proofs.Marks.{marked_none}
 use Rattle.papr_c.specs.Rehash.{emptied_between, wiped_entries}
 
 -- ---- lists
--- Places behind those of a first list.
+-- Places that come after those of a first list.
 set_behind :
     {X : Type 0} (old ys : List X) (n i : ℕ) (x : X)
     → n ≤ length old
@@ -42,7 +42,7 @@ unfolding between
 between_none f first old =
     let none : first - first ≡ 0 = omega arith in rw none (sym (take-append-drop first old))
 
--- What stands at the next index is what stood there.
+-- What is at the next index is what was there.
 pub between_read :
     (f : Entry → Entry) (first index : ℕ) (old : List Entry) (d : Entry)
     → first ≤ index

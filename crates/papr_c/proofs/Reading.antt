@@ -58,7 +58,7 @@ pub words-length :
 words-length a first zero = refl
 words-length a first (suc count) = omega (arith, words-length a (first + 1) count)
 
--- With one entry more its two doublewords come behind the others.
+-- With one entry more its two doublewords come after the others.
 words-more :
     (a : List State) (first i : ℕ)
     → words_of_entries a first (i + 1) ≡ words_of_entries a first i ++ pair_at a (first + i)

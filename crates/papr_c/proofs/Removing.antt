@@ -28,7 +28,7 @@ use Rattle.std.proofs.Math.Bool.{or-false}
 use Rattle.c_layout.proofs.Marks.{or_assoc}
 
 -- ---- slots
--- One more item behind those that were put.
+-- One more item after those that were put.
 pub put_more :
     {X : Type 0} (old now items : List X) (i : ℕ) (x : X)
     → now ≡ placed old 0 items
@@ -81,7 +81,7 @@ rest_all first i pairs words eight all =
     ap (placed words first)
     (take_all (i - first) (drop first pairs) (omega (arith, length-drop first pairs, eight, all)))
 
--- ---- whether a cached translation may be one no more
+-- ---- whether a cached translation may no longer hold
 pub stale_more :
     (rs : List Receipt) (r : Receipt)
     → (any_stale rs || is_stale r.answer) ≡ any_stale (rs ++ r ∷ [])

@@ -138,7 +138,7 @@ so_far_goes goes cs i entry op a b c old new next rs r at is after put on h =
     }
 
 -- ---- its end
--- What is told of the whole trial.
+-- What is known of the whole trial.
 pub record IsTold (goes : Answer → Bool) (cs : List Call) (count : ℕ) (a c : List State)
     (old next : List PaprReceipt) (last : Option Receipt) :
     Type 0 where
@@ -172,7 +172,7 @@ ends goes cs i entry op a b c old new next rs r at is after put off h =
       ending = rw all (sym (h.on (r ∷ []) ∙ ending-off goes r [] off));
     }
 
--- Behind the last call the trial has ended, with no receipt that ended it.
+-- After the last call the trial has ended, with no receipt that ended it.
 pub past_all :
     (goes : Answer → Bool) (cs : List Call) (i : ℕ) (a b : List State) (old new : List PaprReceipt)
     (rs : List Receipt)

@@ -1,4 +1,4 @@
--- Whether one of the receipts of a trial says that a cached translation may be one no more.
+-- Whether a cached translation may no longer hold, by the receipts of a trial.
 use Rattle.std.specs.Prelude.{◌||◌}
 use Rattle.std.specs.Option.{option_map_or}
 use Rattle.std.proofs.Common.{◌≡◌, List, [], ◌∷◌, Bool, true, false, refl, ap, sym, ◌∙◌, ◌⊎◌, inl, inr}

@@ -43,7 +43,7 @@ taking_starts first room old slots inside = record {
   full = λ e. refl;
 }
 
--- What is read of the next entry is what stood there.
+-- What is read of the next entry is what was there.
 pub taking_reads :
     (first index room : ℕ) (old now : List Entry) (slots new : List ℕ) (count : ℕ)
     (told : List ℕ) (d : Entry)

@@ -16,7 +16,7 @@ use Rattle.c_layout.specs.Replies.{refused_reply}
 use Rattle.papr_c.specs.Windows.{window_of, page_entry, outcome_of_tce}
 use Rattle.papr_c.proofs.Outcomes.{coded}
 
--- A plan of one operation has the receipt of that operation, and leaves the states behind it.
+-- A plan of one operation has the receipt of that operation, and leaves the states after it.
 pub one_call :
     (goes : Answer → Bool) (op : Op) (e : ℕ) (entries : List State) (r : Receipt)
     → r ≡ receipt_of e (state_at entries e) op

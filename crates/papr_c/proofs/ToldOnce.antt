@@ -9,7 +9,7 @@ use Rattle.papr_c.specs.Taking.{marked_from, behind, Found, found, without_mark,
 use Rattle.papr_c.proofs.TakenMarks.{from_marked, from_other}
 
 -- ---- what one call finds
--- The index behind the last that is told, or behind all.
+-- The index after the last one that is written, or after all entries.
 abbrev next_of : ℕ → ℕ → List Entry → List ℕ → ℕ
 next_of first room rest told =
     if nat_lt (length told) room then first + length rest else behind first told

@@ -83,7 +83,7 @@ bytes_16 :
 bytes_16 None e = absurd (cc)
 bytes_16 (Some w) e = refl
 
--- Doublewords in place of what stood behind other bytes.
+-- Doublewords that replace what comes after other bytes.
 pub put_more :
     (b out old new ws : List ℕ) (i : ℕ)
     → length b ≡ 16 * i

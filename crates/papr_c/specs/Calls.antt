@@ -1,4 +1,4 @@
--- What a hypervisor call of C leaves: its reply, the entries, and the slots for words and
+-- What a hypervisor call by C leaves: its reply, the entries, and the slots for words and
 -- receipts.
 use Rattle.std.specs.Prelude.{ℕ, ◌==◌, ◌&&◌, Bool, if◌then◌else◌, List, length, map}
 use Rattle.entry_model.specs.State.{State}
@@ -30,7 +30,7 @@ memory_with m reply entries =
     (filled m.words reply.words)
     (filled m.receipts (map shown_receipt reply.receipts))
 
--- What C is told by a call's reply, and the memory with the entries after the call.
+-- What C has of a call's reply, and the memory with the entries after the call.
 abbrev pub outcome_by : LentMemory → HReply × List State → PaprReply × LentMemory
 outcome_by m run = (reply_told run.0 m.words m.receipts, memory_with m run.0 run.1)
 

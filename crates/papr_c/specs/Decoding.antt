@@ -1,4 +1,5 @@
--- What an entry's two doublewords say, and of which page.
+-- What the two doublewords of an entry say at an index: a page and its fields, or why there is
+-- none.
 use Rattle.std.specs.Prelude.{◌≡◌, ◌↔◌, ℕ, ◌<◌, ◌-◌, ◌+◌, ◌%◌, ◌^◌, ◌==◌, ◌&&◌, nat_lt, nat_le, Bool, true, false, not, IsSome, if◌then◌else◌, [], ◌∷◌, find, Option, Some, None, is_none}
 use Rattle.std.specs.Option.{option_map_or}
 use Rattle.storage_prot.specs.Protection.{Permission, permission, may_read, may_write}
@@ -133,7 +134,7 @@ abbrev pub protection_rights : ℕ → Bool → ℕ
 protection_rights protection key = rights_of_permission (permission protection key)
 
 -- ---- what is proved of it
--- A page of this base size lies where a tag says exactly where one has this tag.
+-- A tag fits a base page size exactly if a page of that size has the tag.
 abbrev pub TagsFitPages : Type 0
 TagsFitPages =
     (dword0 base : ℕ)
@@ -141,14 +142,14 @@ TagsFitPages =
     → (fits_tag dword0 base ≡ true)
     ↔ ((p : VirtualPage) × IsPage p × (p.shift ≡ base) × (tag_of p ≡ tag_field dword0))
 
--- No cause holds exactly where the doublewords translate a page at an index in range.
+-- No cause holds exactly if the doublewords translate a page at an index in range.
 abbrev pub NoCauseExactlyAtPages : Type 0
 NoCauseExactlyAtPages =
     (order ptex dword0 dword1 : ℕ)
     → dword0 < 2 ^ 64
     → (why_of order ptex dword0 dword1 ≡ 0) ↔ IsSome (page_here order ptex dword0 dword1)
 
--- Where doublewords translate a page the base size that is said is the page's.
+-- Where doublewords translate a page, the base page size that they are decoded to is the page's.
 abbrev pub BaseSizesAreThePages : Type 0
 BaseSizesAreThePages =
     (order ptex dword0 dword1 : ℕ) (p : VirtualPage)

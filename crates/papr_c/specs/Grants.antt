@@ -1,4 +1,4 @@
--- How a list of grants is made for C, and what is told of it.
+-- How a list of grants is made for C, the numbers of its refusals, and a look-up in it.
 use Rattle.std.specs.Prelude.{ℕ, ◌+◌, Bool, true, false, List, [], ◌∷◌, Option, Some, None}
 use Rattle.pool_range.specs.Ranges.{range_refusal}
 use Rattle.pool_range.specs.declared.range.RangeError.{RangeError}
@@ -36,7 +36,7 @@ making_from granted index (g ∷ gs) =
     index
     (making_from (with_grant granted (grant_of g)) (index + 1) gs)
 
--- Beside the pool of page tables, where its two numbers are one.
+-- With a pool of page tables, where its two numbers describe one.
 abbrev pub making_beside : Option RangeError → ℕ → ℕ → List PaprGrant → Making
 making_beside None base order given = making_from (no_grants base order) 0 given
 making_beside (Some e) base order given = NoPool e
@@ -45,7 +45,7 @@ making_beside (Some e) base order given = NoPool e
 unfoldable pub making_of : ℕ → ℕ → List PaprGrant → Making
 making_of base order given = making_beside (range_refusal base order) base order given
 
--- ---- what C is told
+-- ---- what C has of it
 -- The number of a grant's refusal.
 abbrev pub grant_refusal_number : GrantError → ℕ
 grant_refusal_number grant.Empty = 1

@@ -1,6 +1,7 @@
--- A hypervisor call of C by its number, with its words as in registers 4 to 11.
-use Rattle.std.specs.Prelude.{ℕ, false, List, Option, Some, None}
+-- A hypervisor call that C makes by its number, with its words as in registers 4 to 11.
+use Rattle.std.specs.Prelude.{ℕ, Bool, false, List, [], Option, Some, None, is_some}
 use Rattle.papr_codes.specs.ReturnCodes.{rc_code}
+use Rattle.papr_codes.specs.declared.calls.Hcall.{Hcall}
 use Rattle.papr_codes.specs.declared.codes.Rc.TheVariants.{Function}
 use Rattle.papr_codes.specs.Hcalls.{hcall_of}
 use Rattle.frame_grants.specs.declared.grant.Grant.{Grant}
@@ -22,3 +23,7 @@ outcome_by_plan order m (Some plan) = outcome_of_call order plan m
 abbrev pub outcome_of_hcall : ℕ → List Grant → ℕ → LentMemory → PaprReply × LentMemory
 outcome_of_hcall order grants number m =
     outcome_by_plan order m (plan_of_hcall order grants m.words (hcall_of number))
+
+-- Whether a call is one on entries: whether it has a plan, whatever the table and its words are.
+abbrev pub is_on_entries : Hcall → Bool
+is_on_entries hcall = is_some (plan_of_hcall 0 [] [] hcall)

@@ -1,4 +1,4 @@
--- What a rehash of C leaves: its answer, and the entries of the new table.
+-- What a rehash by C leaves: its answer, and the entries of the new table.
 use Rattle.std.specs.Prelude.{ℕ, ◌-◌, ◌&&◌, true, false, if◌then◌else◌, List, ◌++◌, length, map, take, drop, replicate, Option, Some, None}
 use Rattle.hpte_fields.specs.TableSize.{entry_count}
 use Rattle.papr_codes.specs.ReturnCodes.{rc_code}
@@ -22,7 +22,7 @@ refused_rehash rc = record {
   stale = false;
 }
 
--- H_SUCCESS, after which no cached translation is one of the new table, or H_PTEG_FULL and the two
+-- H_SUCCESS, after which no cached translation is of the new table, or H_PTEG_FULL and the two
 -- entries that would meet.
 abbrev pub rehash_told : Option Collision → PaprRehash
 rehash_told None = record {

@@ -1,5 +1,5 @@
--- The resize calls of C are those of a pool: what the lent memory is to them, a block of the pool
--- is to the calls of hpt_resize.
+-- The resize calls of C are those over a pool whose block is the memory that is lent. What that
+-- memory is to them, a block of the pool is to the calls of hpt_resize.
 use Rattle.std.specs.Prelude.{◌≡◌, ℕ, ◌==◌, true, min, length, Option, None, Some, is_some}
 use Rattle.hpte_fields.specs.TableSize.{entry_count, greatest_order}
 use Rattle.hpt_pool.specs.Pool.{PoolState, lowest_place}
@@ -16,7 +16,7 @@ abbrev pub resize_of : Option PendingTable → PaprResize
 resize_of None = nothing_pending
 resize_of (Some table) = with_pending table
 
--- The pool has a block of the order exactly where the lent memory is that of a table of it, and a
+-- The pool has a block of the order exactly if the lent memory is that of a table of it, and a
 -- pending table of the order has that memory.
 pub record HasLentBlock (shift : ℕ) (m : ResizeMemory) (pool : PoolState) : Type 0 where
   pub block :

@@ -1,5 +1,5 @@
--- The two resize calls of C, over memory that the caller lends for the table that is made ready:
--- their answers, what is pending after them, and that memory.
+-- The two resize calls by C: their answers, what is pending after them, and the memory that is
+-- lent. The caller lends that memory for the table that is made ready.
 use Rattle.std.specs.Prelude.{ℕ, ℤ, ◌-◌, ◌==◌, ◌&&◌, not, Bool, true, false, nat_lt, nat_le, min, if◌then◌else◌, List, ◌++◌, length, take, drop, replicate, Option, Some, None}
 use Rattle.hpte_fields.specs.TableSize.{entry_count, greatest_order, is_table_order}
 use Rattle.papr_codes.specs.ReturnCodes.{rc_code}

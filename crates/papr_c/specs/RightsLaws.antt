@@ -1,4 +1,4 @@
--- The rights and the causes of an access, and the entry's own answer to it.
+-- The laws that the rights and the causes of an access agree with the entry's answer to it.
 use Rattle.std.specs.Prelude.{◌≡◌, ◌+◌, ◌↔◌, Bool, true}
 use Rattle.entry_model.specs.State.{State}
 use Rattle.entry_model.specs.declared.operation.Answer.TheVariants.{At}
@@ -12,14 +12,14 @@ abbrev pub Translates : State → VirtualPage → Bool → Type 0
 Translates s page secondary =
     is_match s (tag_of page + h_bit secondary + 1) page.shift ≡ true
 
--- An access has the right exactly where the entry of its page would allow it and stay as it is.
+-- An access has the right exactly if the entry of its page would allow it and stay as it is.
 abbrev pub RightsAreWhatStays : Type 0
 RightsAreWhatStays =
     (s : State) (page : VirtualPage) (mode : AccessMode) (secondary : Bool)
     → Translates s page secondary
     → (has_right s mode ≡ true) ↔ (reply_of s (access_op page mode secondary) ≡ (At, s))
 
--- An entry of the page allows an access exactly where no cause holds.
+-- An entry of the page allows an access exactly if no cause holds.
 abbrev pub NoCauseExactlyWhereAllowed : Type 0
 NoCauseExactlyWhereAllowed =
     (s : State) (page : VirtualPage) (mode : AccessMode) (secondary : Bool)

@@ -1,4 +1,5 @@
--- The segment lookaside buffer of C: 32 slots of the caller's, as those of slb_model.
+-- The segment lookaside buffer as C has it: its slots, slbmte, and the slot of an address. The 32
+-- slots are the caller's, and are as those of slb_model.
 use Rattle.std.specs.Prelude.{ℕ, Bool, true, false, if◌then◌else◌, List, map, find, set, Option, Some, None}
 use Rattle.std.specs.Option.{option_map_or}
 use Rattle.slb_model.specs.declared.error.BadSlb.{BadSlb}

@@ -1,4 +1,4 @@
--- How marks of entries are taken: which indexes are told, from where to go on, and what stays.
+-- How marks of entries are taken: the indexes that are written, where to go on, and what stays.
 use Rattle.std.specs.Prelude.{◌≡◌, ℕ, ◌+◌, ◌-◌, ◌&&◌, Bool, false, nat_lt, nat_le, if◌then◌else◌, List, [], ◌∷◌, ◌++◌, length, map, take, drop}
 use Rattle.papr_codes.specs.ReturnCodes.{rc_code}
 use Rattle.papr_codes.specs.declared.codes.Rc.TheVariants.{Success, Parameter}
@@ -14,18 +14,18 @@ marked_from index [] = []
 marked_from index (e ∷ es) =
     if e.marked then index ∷ marked_from (index + 1) es else marked_from (index + 1) es
 
--- The index behind the last of these, or this one where there is none.
+-- The index after the last of these, or this one where there is none.
 abbrev pub behind : ℕ → List ℕ → ℕ
 behind index [] = index
 behind index (i ∷ is) = behind (i + 1) is
 
--- The indexes that are told, and the one from which to go on.
+-- The indexes that are written, and the one from which to go on.
 pub record Found : Type 0 where
   pub indexes : List ℕ
   pub next : ℕ
 
 -- From the first index on, as many as there are slots. Where there are more slots all entries
--- were asked; else those up to the last one that is told.
+-- were asked; else those up to the last one that is written.
 abbrev pub found : List Entry → ℕ → ℕ → Found
 found entries first room =
     let indexes = take room (marked_from first (drop first entries)) in
@@ -52,7 +52,7 @@ abbrev pub slots_after : Found → List ℕ → List ℕ
 slots_after f slots = filled slots f.indexes
 
 -- ---- the call
--- H_SUCCESS, how many indexes are told, and the next one.
+-- H_SUCCESS, how many indexes are written, and the next one.
 abbrev pub marks_told : ℕ → ℕ → PaprTaken
 marks_told count next = record { rc = rc_code Success; count = count; next = next }
 
@@ -65,7 +65,7 @@ abbrev pub can_take : ℕ → List Entry → ℕ → Bool
 can_take order entries first =
     is_table order (states_of entries) && nat_le first (length entries)
 
--- What is told; where it can't be taken nothing changes.
+-- The answer and the slots; where the arguments are refused nothing changes.
 abbrev pub outcome_of_taking : ℕ → List Entry → ℕ → List ℕ → PaprTaken × List ℕ
 outcome_of_taking order entries first slots =
     let f = found entries first (length slots) in
@@ -81,14 +81,13 @@ entries_after_taking order entries first room =
     else entries
 
 -- ---- asked until the end
--- What was told by calls one behind the other with these numbers of slots, with nothing else
--- between, and what they left.
+-- What several calls wrote, one after the other and with nothing else between, and what they left.
 pub record Told : Type 0 where
   pub indexes : List ℕ
   pub next : ℕ
   pub entries : List Entry
 
--- The marks that calls from this index on take, one behind the other, each with its room.
+-- The marks that calls from this index on take, one after the other, each with its room.
 abbrev pub asked_on : ℕ → List Entry → List ℕ → Told
 asked_on first entries [] = record { indexes = []; next = first; entries = entries }
 asked_on first entries (room ∷ rooms) =
@@ -100,7 +99,7 @@ asked_on first entries (room ∷ rooms) =
       entries = rest.entries;
     }
 
--- Where they came to the end each marked entry was told once, and no mark is left.
+-- Where they came to the end, the index of each marked entry was written once, and no mark is left.
 abbrev pub EachMarkIsToldOnce : Type 0
 EachMarkIsToldOnce =
     (entries : List Entry) (rooms : List ℕ)

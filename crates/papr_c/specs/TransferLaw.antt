@@ -1,4 +1,4 @@
--- What is exported is imported as the same entry, but for its stamp.
+-- The law that an entry which is exported is imported as the same one, except for its stamp.
 use Rattle.std.specs.Prelude.{◌≡◌, ℕ, ◌<◌, ◌^◌, ◌*◌, List, ◌++◌, length, Some, Ok, bit_and, true}
 use Rattle.frame_grants.specs.declared.grant.Grant.{Grant}
 use Rattle.hpte_fields.specs.Fields.{is_valid, stored_second}
@@ -20,7 +20,7 @@ pub record IsGranted (grants : List Grant) (s : State) : Type 0 where
   pub stored : s.valid ≡ true → stored_second s.dword1 ≡ s.dword1
   pub entered : s.valid ≡ true → entered_words grants s.dword0 (words_of s).1 ≡ Some (words_of s)
 
--- In both layouts its bytes, behind those of i others and whatever follows them, are imported as
+-- In both layouts its bytes, after those of i others and whatever follows them, are imported as
 -- this entry at stamp 0.
 abbrev pub IsRoundTrip : Type 0
 IsRoundTrip =

@@ -1,5 +1,6 @@
--- Entries as bytes, in the layouts of a table image: 16 bytes an entry, doubleword 0 before
--- doubleword 1, each with its most significant byte first. An empty entry is 16 zeros.
+-- Entries as bytes in the layouts of a table image, and what an export and an import leave. An
+-- entry is 16 bytes, doubleword 0 before doubleword 1, each with its most significant byte first;
+-- an empty one is 16 zeros.
 use Rattle.std.specs.Prelude.{ℕ, ◌+◌, ◌*◌, ◌==◌, ◌&&◌, Bool, nat_le, if◌then◌else◌, List, [], ◌++◌, length, map, flat_map, take, drop, find, Option, Some, None, is_none, Result, Ok, Err, is_err}
 use Rattle.std.specs.List.{range_with_len}
 use Rattle.std.specs.Option.{option_map, unwrap_or}
@@ -30,7 +31,7 @@ abbrev pub is_range : List State → ℕ → ℕ → List ℕ → Bool
 is_range entries first number bytes =
     nat_le (first + number) (length entries) && nat_le (16 * number) (length bytes)
 
--- ---- what is told
+-- ---- how a transfer ends
 -- The number of a refusal.
 abbrev pub refusal_number : Refusal → ℕ
 refusal_number Arguments = 1
@@ -107,7 +108,7 @@ abbrev pub entry_of_words : List Grant → Layout → ℕ × ℕ → Result Stat
 entry_of_words grants layout w =
     if is_valid w.0 then entered_where grants (read_words layout w) else Ok (empty_state 0)
 
--- The entry of the 16 bytes behind those of so many others.
+-- The entry of the 16 bytes after those of so many others.
 abbrev pub entry_of_bytes : List Grant → Layout → List ℕ → ℕ → Result State Refusal
 entry_of_bytes grants layout bytes i =
     entry_of_words grants layout (words_of_bytes (drop (16 * i) bytes))
@@ -129,12 +130,12 @@ abbrev pub refusal_at : Result State Refusal → ℕ → PaprTransfer
 refusal_at (Ok s) index = transferred
 refusal_at (Err refusal) index = refused_at index refusal
 
--- Other entries in place of those from an index on.
+-- The entries, of which those from an index on are replaced by others.
 abbrev pub replaced : List State → ℕ → List State → List State
 replaced entries first others =
     take first entries ++ (others ++ drop (first + length others) entries)
 
--- The entries of the bytes in place of those from the first on; or one that is refused, and nothing
+-- The entries of the bytes replace those from the first on; or one of them is refused, and nothing
 -- changes.
 abbrev pub imported_unless :
     Option ℕ → List Grant → Layout → List State → ℕ → ℕ → List ℕ → PaprTransfer × List State

@@ -1,4 +1,4 @@
--- Calls on entries that a caller lends, and the words of these entries.
+-- One call of a trial on entries that a caller lends, and the words of these entries.
 use Rattle.std.specs.Prelude.{◌≡◌, ℕ, ◌+◌, Bool, true, false, List, [], ◌∷◌, flat_map, set, Option, Some, None}
 use Rattle.std.specs.List.{range_with_len}
 use Rattle.entry_model.specs.State.{State}
@@ -13,7 +13,7 @@ use Rattle.c_layout.specs.declared.receipts.PaprReceipt.{PaprReceipt}
 use Rattle.papr_c.specs.declared.trying.Tried.{Tried}
 use Rattle.c_layout.specs.Slots.{shown_receipt}
 
--- Both doublewords of entries that stand one behind the other.
+-- Both doublewords of each of so many entries, from the first on.
 abbrev pub words_of_entries : List State → ℕ → ℕ → List ℕ
 words_of_entries entries first count =
     flat_map
@@ -27,7 +27,7 @@ pub record LentPair : Type 0 where
   pub slots_before : List PaprReceipt
   pub slots_after : List PaprReceipt
 
--- The call behind the first ones was made, with this receipt, and the trial goes on or it doesn't.
+-- The call after the first ones was made, with this receipt, and the trial goes on or it doesn't.
 pub record IsMadeAt (goes : Answer → Bool) (cs : List Call) (i : ℕ) (m : LentPair) (r : Receipt)
     (on : Bool)
     : Type 0 where

@@ -1,4 +1,4 @@
--- The number of a version.
+-- The version of the library as one number, of its major, minor and patch.
 use Rattle.std.specs.Prelude.{ℕ, ◌+◌, ◌*◌, ◌^◌}
 
 -- The number of a version: major, minor and patch, eight bits each for the last two.

@@ -1,4 +1,5 @@
--- What a walk of C leaves: what it found, the entries, and the slots for receipts.
+-- What a walk by C finds and leaves, and the probe that finds the same without a change. A walk
+-- changes the entries and the slots for receipts.
 use Rattle.std.specs.Prelude.{◌≡◌, ℕ, if◌then◌else◌, List, length, map, min, Option, Some}
 use Rattle.storage_prot.specs.declared.want.Want.{Want}
 use Rattle.power_addr.specs.Pages.{VirtualPage}
@@ -33,8 +34,8 @@ abbrev pub walk_run :
 walk_run order a page want entries =
     trial_run is_no_match entries (walk_calls order page (mode_of a want))
 
--- What C is told by a walk's receipts and the entries after them: the words and the rights are
--- those of the entry as the walk left it.
+-- What C has of a walk's receipts and the entries after them: the words and the rights are those of
+-- the entry as the walk left it.
 abbrev pub walked_by :
     PaprAccess → Want → WalkMemory → List Receipt × List State → PaprWalk × WalkMemory
 walked_by a want m run = (
@@ -62,7 +63,7 @@ outcome_of_walk order a m =
 unfoldable pub each_as_is : List State → List Call → List Receipt
 each_as_is entries calls = map (receipt_at entries) calls
 
--- What a walk of these entries would find, by the entry as it is; no receipt is told.
+-- What a walk of these entries would find, by the entry as it is; there are no receipts.
 abbrev pub probe_where :
     Option VirtualPage → Option Want → ℕ → PaprAccess → List State → PaprWalk
 probe_where (Some page) (Some want) order a entries =
@@ -78,7 +79,7 @@ outcome_of_probe order a entries =
     else refused_walk
 
 -- ---- the two
--- They tell the same but for R and C, the rights that depend on these, and the receipts.
+-- They find the same, except for R and C, the rights that depend on these, and the receipts.
 pub record Agree (walk probe : PaprWalk) : Type 0 where
   pub logical : probe.logical ≡ walk.logical
   pub entry : probe.entry ≡ walk.entry

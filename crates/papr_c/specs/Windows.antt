@@ -1,5 +1,5 @@
--- H_PUT_TCE, H_GET_TCE and a device's access, of C: over the entries of a window, one for each
--- page.
+-- H_PUT_TCE, H_GET_TCE and a device's access by C, over the entries of a window. The window has one
+-- entry for each page.
 use Rattle.std.specs.Prelude.{ℕ, Bool, if◌then◌else◌, List, [], ◌∷◌, length, map, min, Option, Some, None}
 use Rattle.frame_grants.specs.declared.grant.Grant.{Grant}
 use Rattle.bus_window.specs.Windows.{BusWindow, bus_window, is_window, entry_at}
@@ -34,7 +34,7 @@ outcome_of_tce base plan m =
     outcome_where (is_window (window_of base m.entries)) (plan (window_of base m.entries)) m
 
 -- ---- a device
--- The access as C is told: the machine address, or for a page that isn't granted the logical one.
+-- The access as C has it: the machine address, or for a page that isn't granted the logical one.
 abbrev pub device_told : DeviceOutcome → ℕ → PaprDevice
 device_told (At machine) receipts = record { address = machine; outcome = 0; receipts = receipts }
 device_told Denied receipts = record { address = 0; outcome = 1; receipts = receipts }
@@ -51,7 +51,7 @@ abbrev pub device_receipts : List State → Option ℕ → List Receipt
 device_receipts entries None = []
 device_receipts entries (Some e) = receipt_of e (state_at entries e) Read ∷ []
 
--- What a device's access is told by the receipt of its page's entry, and the slots for receipts.
+-- The answer to a device's access by the receipt of its page's entry, and the slots for receipts.
 abbrev pub device_by :
     List Grant → ℕ → Bool → List PaprReceipt → List Receipt → PaprDevice × List PaprReceipt
 device_by grants ioba write slots rs = (

@@ -1,3 +1,5 @@
+//! H_BULK_REMOVE on lent entries, over its four pairs of words; any other count of words is
+//! refused.
 ghost use Rattle.std.specs.Prelude.{◌≡◌};
 ghost use Rattle.call_plan.specs.Bulk.{h_bulk_remove_plan};
 ghost use Rattle.papr_c.specs.Calls.{memory, outcome_of_bulk};
@@ -8,7 +10,7 @@ use c_layout::{PaprEntry, PaprReceipt, PaprReply, is_table};
 use call_plan::bulk_remove_plan;
 
 /// H_BULK_REMOVE (LoPAR): takes four pairs of words, each a request to remove an entry and the word
-/// of its test. The words are all eight, with a response in place of each request that was taken
+/// of its test. All eight words are given back: a response replaces each request that was taken
 /// up.
 #[tactic(auto, using(c_layout::proofs::Marks::marked_none))]
 #[inline(always)]

@@ -1,3 +1,5 @@
+//! A page table entry decoded: the virtual and the real page of its two doublewords at an index,
+//! and its fields, or the first reason why they translate no page.
 ghost use Rattle.std.specs.Prelude.{◌≡◌, Some, None, IfOk, IfErr};
 ghost use Rattle.hpte_fields.specs.Fields as fields;
 ghost use Rattle.papr_c.specs.Decoding as spec;
@@ -36,7 +38,7 @@ pub struct PaprPage {
     pub no_execute: bool,
     /// Whether the guest marked the entry as one that a resize keeps.
     pub bolted: bool,
-    /// Whether the entry stands in its page's secondary group.
+    /// H: whether the entry is one of its page's secondary group.
     pub secondary: bool,
     /// R: the page was referenced.
     pub referenced: bool,

@@ -1,3 +1,4 @@
+//! H_ENTER on lent entries, checked against the list of grants.
 ghost use Rattle.std.specs.Prelude.{◌≡◌};
 ghost use Rattle.call_plan.specs.Checks.{h_enter_plan};
 ghost use Rattle.papr_c.specs.Calls.{memory, outcome_of_call};

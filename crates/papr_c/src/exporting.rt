@@ -1,3 +1,4 @@
+//! Entries of a table written as bytes in the layout of an image: all that are asked for, or none.
 ghost use Rattle.std.specs.Prelude.{◌≡◌, ◌+◌, ◌*◌, ◌≤◌, ◌++◌, None, length, drop};
 ghost use Rattle.byteorder.specs.Endian.{big_bytes};
 ghost use Rattle.table_image.specs.Layouts.{laid_out};

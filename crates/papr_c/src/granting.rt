@@ -1,3 +1,5 @@
+//! The list of grants, made and checked from those that C gives, and its look-up: the machine range
+//! of a logical one.
 ghost use Rattle.std.specs.Prelude.{◌≡◌};
 ghost use Rattle.frame_grants.specs.Grants.{machine_range};
 ghost use Rattle.c_layout.specs.Grants.{listed};
@@ -54,8 +56,9 @@ fn pool_refusal_number(error: RangeError) -> u32
     }
 }
 
-/// Makes the list of these grants, beside the machine range of `2^pool_order` bytes from
-/// `pool_base` that is kept for page tables. Where one of them is refused the list stays as it was.
+/// Makes the list of these grants. None of them may overlap the machine range of `2^pool_order`
+/// bytes from `pool_base`, which is kept for page tables. Where one of them is refused the list
+/// stays as it was.
 #[unsafe(no_mangle)]
 pub extern "C" fn papr_make_grants(
     given: &[PaprGrant],

@@ -1,3 +1,5 @@
+//! Entries of a table read from bytes in the layout of an image, each as H_ENTER would store it:
+//! all that are asked for, or none.
 ghost use Rattle.std.specs.Prelude.{◌≡◌, ◌+◌, ◌*◌, ◌≤◌, ◌<◌, None, IfSome, length};
 ghost use Rattle.c_layout.specs.Grants.{listed};
 ghost use Rattle.papr_c.specs.Transfers.{replaced, entries_of_bytes, outcome_of_import};
@@ -33,7 +35,7 @@ fn entry_of_words(
     Ok(entered(dword0, dword1))
 }
 
-/// The entry of the 16 bytes behind those of `i` others.
+/// The entry of the 16 bytes after those of `i` others.
 fn entry_of_bytes(
     grants: &PaprGrants,
     layout: Layout,
@@ -72,9 +74,9 @@ fn first_refused(grants: &PaprGrants, layout: Layout, bytes: &[u8], number: usiz
     None
 }
 
-/// Puts so many entries, none of which is refused, in place of those from the first on.
+/// Replaces so many entries, from the first on, by those of the bytes, none of which is refused.
 #[tactic(auto, using(c_layout::proofs::Marks::marked_none))]
-fn put_entries(
+fn store_entries_in_table(
     grants: &PaprGrants,
     layout: Layout,
     bytes: &[u8],
@@ -106,7 +108,7 @@ fn put_entries(
 
 /// Reads `number` entries of a table from bytes, from the entry `first` on: 16 an entry, as
 /// `papr_export` writes them in this layout. Each is what H_ENTER stores of its two doublewords, at
-/// stamp 0, or empty where V is clear; what stood there is dropped. Where H_ENTER would refuse one,
+/// stamp 0, or empty where V is clear; what was there is dropped. Where H_ENTER would refuse one,
 /// or the layout has no such entry, nothing changes.
 #[tactic(auto, using(c_layout::proofs::Marks::marked_none))]
 #[unsafe(no_mangle)]
@@ -142,6 +144,6 @@ pub extern "C" fn papr_import(
             Err(refusal) => PaprTransfer::refused(first + i, refusal),
         };
     }
-    put_entries(grants, layout, bytes, number, first, entries);
+    store_entries_in_table(grants, layout, bytes, number, first, entries);
     PaprTransfer::done()
 }

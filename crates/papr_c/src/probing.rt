@@ -1,3 +1,4 @@
+//! A translation looked up without a change: the operations of a walk, with no R or C recorded.
 ghost use Rattle.std.specs.Prelude.{◌≡◌, ◌≤◌, ◌<◌, length};
 ghost use Rattle.std.specs.List.{AllByRecursion};
 ghost use Rattle.entry_model.specs.Receipt.{found_of};
@@ -35,7 +36,7 @@ fn find(entries: &[PaprEntry], calls: &PageCalls) -> Option<Receipt>
     None
 }
 
-/// What `papr_walk` would find of an access to `ea`, by the entries as they are, of which none
+/// What `papr_walk` would find of an access to `ea`, by the entries as they are, none of which
 /// changes. `dword1` and the rights are those without the access, and there are no receipts.
 #[unsafe(no_mangle)]
 pub extern "C" fn papr_probe(entries: &[PaprEntry], order: u8, access: &PaprAccess) -> PaprWalk

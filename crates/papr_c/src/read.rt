@@ -1,3 +1,4 @@
+//! H_READ on lent entries, and both doublewords of entries put into the caller's slots.
 ghost use Rattle.std.specs.Prelude.{◌≡◌, ◌≤◌, ◌+◌, ◌*◌, ◌^◌, ◌<◌, length, min};
 ghost use Rattle.call_plan.specs.Single.{h_read_plan};
 ghost use Rattle.papr_c.specs.Calls.{memory, outcome_of_call};
@@ -12,7 +13,7 @@ use hpt_resize::StateHolder;
 
 /// Puts both doublewords of each of these entries into the caller's slots, as far as these go, and
 /// gives how many it put.
-pub fn put_entries(entries: &[PaprEntry], first: u32, count: u32, slots: &mut [u64]) -> u32
+pub fn put_doublewords(entries: &[PaprEntry], first: u32, count: u32, slots: &mut [u64]) -> u32
     requires few { count ≤ 4 }
     requires in_table { first + count ≤ length (states_of entries.now) }
     requires small { first + count < 2 ^ 32 }

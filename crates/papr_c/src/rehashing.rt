@@ -1,3 +1,5 @@
+//! The rehash of one lent table into another: bolted entries are carried over, and where two would
+//! meet the new table is left empty.
 ghost use Rattle.std.specs.Prelude.{◌≡◌, ◌≤◌, length};
 ghost use Rattle.hpte_fields.specs.TableSize.{IsTableOrder, entry_count};
 ghost use Rattle.hpt_resize.specs.Rehash.{collision_of};
@@ -21,7 +23,7 @@ pub struct PaprRehash {
     pub second: u32,
     /// The index in the new table.
     pub target: u32,
-    /// Whether cached translations have to be dropped: after a success none is one of the new
+    /// Whether cached translations have to be dropped: after a success none of them is of the new
     /// table.
     pub stale: bool,
 }

@@ -1,3 +1,5 @@
+//! The run of H_BULK_REMOVE on lent entries: each request is answered in its own place, and the
+//! words of pairs that weren't taken up are copied.
 ghost use Rattle.std.specs.Prelude.{◌≡◌, ◌≤◌, true, length, min, drop};
 ghost use Rattle.papr_codes.specs.ReturnCodes.{rc_code};
 ghost use Rattle.c_layout.specs.Slots.{placed};

@@ -1,3 +1,5 @@
+//! H_RESIZE_HPT_PREPARE and H_RESIZE_HPT_COMMIT over memory that the caller lends for the new
+//! table, and what is pending between them.
 ghost use Rattle.std.specs.Prelude.{◌≡◌, ◌≤◌, ◌+◌, min, Some, None, length, MatchResult, IfOk, OnOk};
 ghost use Rattle.hpte_fields.specs.TableSize.{IsTableOrder, entry_count};
 ghost use Rattle.hpt_resize.specs.Resize.{commit_refusal};

@@ -1,3 +1,4 @@
+//! Loads and stores that protection bits allow under a key of a segment, as a number for C.
 ghost use Rattle.std.specs.Prelude.{◌≡◌};
 ghost use Rattle.papr_c.specs.Decoding.{protection_rights};
 

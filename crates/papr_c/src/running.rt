@@ -1,10 +1,12 @@
+//! How the plan of a hypervisor call is run on lent entries: a code alone, a trial or removals,
+//! with their words and receipts in the caller's slots.
 ghost use Rattle.std.specs.Prelude.{◌≡◌, true};
 ghost use Rattle.call_plan.specs.Plans as plans;
 ghost use Rattle.papr_c.specs.Calls.{memory, outcome_of_call};
 ghost use Rattle.c_layout.specs.Tables.{is_table};
 ghost use Rattle.c_layout.specs.Entries.{states_of, AreMarked};
 
-use crate::read::put_entries;
+use crate::read::put_doublewords;
 use crate::removals::remove_pairs;
 use crate::trying::{make, try_lent};
 use c_layout::{PaprEntry, PaprReceipt, PaprReply, ends_stale, filled_count, hand_over, is_stale};
@@ -50,7 +52,7 @@ fn try_trial(
         }
         Told::Contents => {
             let tried = try_lent(entries, trial, receipts);
-            let shown = put_entries(entries, trial.first, trial.count, words);
+            let shown = put_doublewords(entries, trial.first, trial.count, words);
             PaprReply::answered(Rc::Success, shown, filled_count(room, tried.count), false)
         }
     }

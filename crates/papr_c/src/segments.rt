@@ -1,3 +1,5 @@
+//! The segment lookaside buffer in the caller's memory: `slbmte`, clearing, and the search for the
+//! segment of an address.
 ghost use Rattle.std.specs.Prelude.{◌≡◌, Some, None, MatchResult, replicate};
 ghost use Rattle.basics.specs.Words.{first_refusal};
 ghost use Rattle.papr_c.specs.Segments.{covering, slot_of, slot_told, slot_at, outcome_of_mte};

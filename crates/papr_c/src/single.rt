@@ -1,3 +1,4 @@
+//! H_REMOVE, H_PROTECT, H_CLEAR_REF and H_CLEAR_MOD on one lent entry.
 ghost use Rattle.std.specs.Prelude.{◌≡◌};
 ghost use Rattle.call_plan.specs.Single.{h_remove_plan, h_protect_plan, h_clear_ref_plan, h_clear_mod_plan};
 ghost use Rattle.papr_c.specs.Calls.{memory, outcome_of_call};

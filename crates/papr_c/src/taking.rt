@@ -1,3 +1,4 @@
+//! The marks of changed entries: their indexes are written for the caller, and they are cleared.
 ghost use Rattle.std.specs.Prelude.{◌≡◌, ◌≤◌, ◌<◌, ◌^◌, length};
 ghost use Rattle.papr_c.specs.Taking.{refused_taking, marks_told, slots_after, entries_without, outcome_of_taking, entries_after_taking};
 

@@ -1,3 +1,5 @@
+//! What export and import share: how they end, with the numbers of their refusals, the number of a
+//! layout, and the range of entries.
 ghost use Rattle.std.specs.Prelude.{◌≡◌, ◌+◌, ◌*◌, ◌≤◌, length, nat_le, ◌&&◌};
 ghost use Rattle.papr_c.specs.Transfers.{transferred, refused_at};
 

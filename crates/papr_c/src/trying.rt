@@ -1,3 +1,5 @@
+//! Operations on lent entries: one with its receipt and its mark, and several in turn, until an
+//! answer ends the trial.
 ghost use Rattle.std.specs.Prelude.{◌≡◌, ◌≤◌, ◌<◌, ◌^◌, length, map, set};
 ghost use Rattle.std.specs.List.{AllByRecursion};
 ghost use Rattle.entry_model.specs.Receipt.{after_of, receipt_of};
@@ -85,7 +87,7 @@ pub fn make(
     receipt
 }
 
-/// Makes the call behind the first `made` on its entry, and puts its receipt into the caller's
+/// Makes the call after the first `made` on its entry, and puts its receipt into the caller's
 /// slot, where there is one. Gives back how the trial ended, or `None` where the next call
 /// follows.
 #[inline(always)]

@@ -1,3 +1,4 @@
+//! The version of the library, for a caller to compare with that of its header.
 ghost use Rattle.std.specs.Prelude.{◌≡◌};
 ghost use Rattle.papr_c.specs.Version.{version_number};
 

@@ -1,3 +1,5 @@
+//! The translation of an access by lent entries: its page's two groups are tried, and R and C are
+//! recorded where the access is allowed.
 ghost use Rattle.std.specs.Prelude.{◌≡◌};
 ghost use Rattle.papr_c.specs.Walks.{walk_memory, outcome_of_walk};
 ghost use Rattle.c_layout.specs.Entries.{states_of, AreMarked};

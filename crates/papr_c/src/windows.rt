@@ -1,3 +1,4 @@
+//! H_PUT_TCE, H_GET_TCE and a device's access over lent entries that make up a DMA window.
 ghost use Rattle.std.specs.Prelude.{◌≡◌, ◌<◌, ◌||◌, [], length, true, false, IfSome};
 ghost use Rattle.bus_window.specs.Windows as bus;
 ghost use Rattle.dma_window.specs.Calls.{put_tce_plan, put_plan_at, get_tce_plan, clear_plan, replace_plan};

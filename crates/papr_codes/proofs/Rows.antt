@@ -73,7 +73,7 @@ full_code = refl
 resource_code : rc_code Resource ≡ negsuc 15
 resource_code = refl
 
--- H_EXACT is bit 39 of the word, and a word may have it beside bits that mean nothing.
+-- H_EXACT is bit 39 of the word, and a word may have it together with bits that mean nothing.
 exact_is_set : has_flag (2 ^ 39 + 1) 0x8000000000 ≡ true
 exact_is_set = refl
 

@@ -58,7 +58,7 @@ is_named Prepare = true
 is_named Commit = true
 is_named (Other number) = false
 
--- The call's name in LoPAR.
+-- The call's name in LoPAR or, of the resize calls, in Linux; `hcall` for any other number.
 abbrev pub hcall_name : Hcall → List ℕ
 hcall_name Remove = codes "H_REMOVE"
 hcall_name Enter = codes "H_ENTER"

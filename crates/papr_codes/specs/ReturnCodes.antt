@@ -1,4 +1,4 @@
--- The values of the return codes.
+-- The value in register 3 of each return code of a hypervisor call.
 use Rattle.std.specs.Prelude.{ℤ, pos, negsuc}
 use Rattle.papr_codes.specs.declared.codes.Rc.{Rc}
 use Rattle.papr_codes.specs.declared.codes.Rc.TheVariants.{Success, Busy, Closed, LongBusy, Hardware, Function, Parameter, PtegFull, NotFound, NoMem, Resource}

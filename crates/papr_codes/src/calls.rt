@@ -1,3 +1,4 @@
+//! The hypervisor calls on the page table and on DMA windows, each with its number and its name.
 ghost use Rattle.std.specs.Prelude.{◌≡◌, IsTrue, is_some};
 ghost use Rattle.papr_codes.specs.Hcalls.{row_of, hcall_of, hcall_number, hcall_name, is_named};
 

@@ -1,3 +1,4 @@
+//! What a hypervisor call can return: the names of LoPAR, and their values in register 3.
 ghost use Rattle.std.specs.Prelude.{◌≡◌};
 ghost use Rattle.papr_codes.specs.ReturnCodes.{rc_code};
 

@@ -1,3 +1,4 @@
+//! H_EXACT, H_READ_4, H_AVPN and H_ANDCOND, as they are set in a call's first argument.
 ghost use Rattle.std.specs.Prelude.{⊤, ℕ, ◌≡◌, bit_and, [], ◌∷◌, codes};
 ghost use Rattle.papr_codes.specs.FlagBits.{known_flags, has_flag};
 

@@ -3,6 +3,8 @@
 //!
 //! They are those of the Linux on Power Architecture Reference (LoPAR); the two resize calls have
 //! the numbers that Linux uses.
+//!
+//! Main contracts: `Hcall::of_number` and `number`: the table, both ways; `Rc::code`; `CallFlags`.
 #![tactic(auto)]
 
 mod calls;

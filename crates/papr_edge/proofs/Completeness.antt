@@ -30,7 +30,7 @@ read_whole reads left bytes rest refuses took end =
       | inr within ↦ ap reads (sym (took ∙ ap (λ z. bytes ++ z) (end within) ∙ append-nil bytes))
     ]
 
--- What was read reads as the input that the source told.
+-- What was read reads as the input that was left in the source.
 pub told_input :
     {A : Type 0} (reads : List ℕ → Result A (ℕ × Reason)) (P : Result A (ℕ × Reason) → Type 0)
     (left left_after : Option (List ℕ)) (bytes : List ℕ)

@@ -17,7 +17,7 @@ abbrev pub behind : List ℕ → List ℕ × List ℕ → List ℕ × List ℕ
 behind front parts = (front ++ parts.0, parts.1)
 
 -- The first lines were looked at, and none of them is the one that is looked for; the rest begins
--- behind these bytes.
+-- after these bytes.
 pub record IsCutTo (bytes : List ℕ) (start : ℕ) (left : Option (Bor (List ℕ))) : Type 0 where
   pub cut :
       cut_lines (slice_split is_lf bytes)
@@ -167,7 +167,7 @@ without_last-le c bytes =
       | false ↦ omega arith
     ]
 
--- No more than one behind each byte, and the last.
+-- There is at most one line more than there are bytes.
 pub few_lines : (bytes : List ℕ) → length (raw_lines bytes) ≤ length bytes + 1
 few_lines [] = omega arith
 few_lines (c ∷ cs) =

@@ -1,4 +1,4 @@
--- What is made of an input.
+-- The text that a command makes of its input, and the exit status.
 use Rattle.std.specs.Prelude.{◌≡◌, List, ℕ, Result, Ok, string_bytes}
 use Rattle.std.specs.declared.alloc.AllocError.{AllocError}
 use Rattle.papr_edge.specs.declared.answer.Answer.{Answer}

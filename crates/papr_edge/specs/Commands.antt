@@ -1,4 +1,4 @@
--- The words behind the program's name.
+-- The commands that the words after the program's name ask for.
 use Rattle.std.specs.Prelude.{ℕ, ◌≤◌, List, [], ◌∷◌, Option, Some, None, if◌then◌else◌, nat_le, codes, string_bytes, String}
 use Rattle.std.specs.Str.{bytes_eq}
 use Rattle.std.specs.declared.alloc.Global.{Global}

@@ -10,7 +10,7 @@ use Rattle.papr_edge.specs.declared.status.Status.{Status}
 use Rattle.papr_edge.specs.declared.status.Status.TheVariants.{Done, Usage, Refused, ReadFault, WriteFault, Memory, CheckNo}
 
 -- ---- what a call leaves
--- The bytes left in the source and those taken by the sink, before and after, where they are told.
+-- The bytes left in the source and those taken by the sink, before and after, where they are known.
 pub record Run : Type 0 where
   pub left : Option (List ℕ)
   pub left_after : Option (List ℕ)
@@ -67,7 +67,7 @@ abbrev pub IsOutput :
 IsOutput says (Ok x) text = (status : Status) × says x status text
 IsOutput says (Err refusal) text = text ≡ refusal_text refusal.0 refusal.1
 
--- The sink failed behind a prefix of such a text.
+-- The sink failed after a prefix of such a text.
 pub record Stops
     {A : Type 0}
     (reads : List ℕ → Result A (ℕ × Reason))

@@ -1,4 +1,4 @@
--- How a text is written.
+-- How a text or a refusal is written, with the status where the sink fails.
 use Rattle.std.specs.Prelude.{◌≡◌, ◌⊎◌, ℕ, List, [], ◌++◌, Option}
 use Rattle.trace_io.specs.Outside.{Put, Rose}
 use Rattle.papr_edge.specs.declared.reading.NoInput.{NoInput}
@@ -7,7 +7,7 @@ use Rattle.papr_edge.specs.declared.status.Status.{Status}
 use Rattle.papr_edge.specs.declared.status.Status.TheVariants.{Refused, ReadFault, WriteFault, Memory}
 use Rattle.papr_edge.specs.Inputs.{refusal_text}
 
--- The whole text was written, or the sink failed behind a prefix of it.
+-- The whole text was written, or the sink failed after a prefix of it.
 abbrev pub Finishes : Status → List ℕ → Option (List ℕ) → Option (List ℕ) → ℕ → ℕ → Status → Type 0
 Finishes status text taken taken_after faults faults_after result =
     ((result ≡ status) × Put taken text taken_after)

@@ -39,12 +39,12 @@ pub record JudgedInput : Type 0 where
   pub trace : AcceptedTrace
   pub text : List ℕ
 
--- The line that stands between the two; a CR at its end is dropped.
+-- The line between the two; a CR at its end is dropped.
 abbrev pub is_replies_line : List ℕ → Bool
 is_replies_line line = bytes_eq (without_cr line) (codes "replies")
 
--- The lines before the first such line, each with its LF, and what stands behind it; none where
--- there is no such line.
+-- The lines before the first such line, each with its LF, and what follows it; none where there is
+-- no such line.
 abbrev pub cut_lines : List (List ℕ) → Option (List ℕ × List ℕ)
 cut_lines [] = None
 cut_lines (line ∷ rest) =
@@ -56,7 +56,7 @@ cut_lines (line ∷ rest) =
 unfoldable pub cut_of : List ℕ → Option (List ℕ × List ℕ)
 cut_of bytes = cut_lines (slice_split is_lf bytes)
 
--- The trace with the text behind it, where it is one.
+-- The trace with the text after it, where it is one.
 abbrev pub with_text :
     List ℕ → Result AcceptedTrace (ℕ × Reason) → Result JudgedInput (ℕ × Reason)
 with_text text (Ok t) = Ok (record { trace = t; text = text })

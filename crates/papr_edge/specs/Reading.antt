@@ -1,4 +1,4 @@
--- What reading an input gives.
+-- What reading a source gives: an input, a refusal with its line, or a fault.
 use Rattle.std.specs.Prelude.{◌≡◌, ℕ, ◌<◌, ◌≤◌, List, length, Option, Result, Ok, Err}
 use Rattle.trace_io.specs.Outside.{Took, AtEnd}
 use Rattle.trace_read.specs.declared.why.Why.TheVariants as whys
@@ -20,7 +20,7 @@ pub record Reads
     pub took : Took left bytes left_after
     pub end : length bytes ≤ most_bytes → AtEnd left_after
 
--- What was read is an input, or is refused; of a fault and of want of memory nothing is told.
+-- What was read is an input, or is refused; of a fault and of want of memory nothing is said.
 abbrev pub IsInput :
     {A : Type 0}
     → (List ℕ → Result A (ℕ × Reason))
@@ -47,7 +47,7 @@ abbrev pub no_input_of : TraceError → NoInput
 no_input_of (errors.Line line why) = missing.Refused line (reasons.Trace why)
 no_input_of errors.Memory = missing.Memory
 
--- What was parsed, or the refusal, as is said; of want of memory nothing is told.
+-- What was parsed, or the refusal, as given; of want of memory nothing is said.
 abbrev pub IsParsedInput : {A : Type 0} → Result A NoInput → Result A (ℕ × Reason) → Type 0
 IsParsedInput (Ok x) said = said ≡ Ok x
 IsParsedInput (Err (missing.Refused line reason)) said = said ≡ Err (line, reason)

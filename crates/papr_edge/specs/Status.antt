@@ -1,4 +1,4 @@
--- The exit statuses.
+-- The number of each exit status, 0 to 6.
 use Rattle.std.specs.Prelude.{ℕ}
 use Rattle.papr_edge.specs.declared.status.Status.{Status}
 use Rattle.papr_edge.specs.declared.status.Status.TheVariants.{Done, Usage, Refused, ReadFault, WriteFault, Memory, CheckNo}

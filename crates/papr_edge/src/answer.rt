@@ -1,3 +1,4 @@
+//! The four kinds of text that a command can make of its input, each with its exit status.
 ghost use Rattle.std.specs.Prelude.{◌≡◌};
 ghost use Rattle.papr_edge.specs.Answer.{answer_status, answer_text};
 

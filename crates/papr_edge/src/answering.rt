@@ -1,3 +1,5 @@
+//! How a command that reads is run: read and parse the source, make the answer, write it. A
+//! refusal, a fault or want of memory ends it early.
 ghost use Rattle.std.specs.Prelude.{◌≡◌, ◌≢◌, ◌≤◌};
 ghost use Rattle.std.specs.Fn.{FnOnceReturnsAt};
 ghost use Rattle.trace_io.specs.Outside.{Rose};

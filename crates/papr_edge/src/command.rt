@@ -1,3 +1,5 @@
+//! The words of the command line and the commands that they ask for: `run`, `par`, `check`, `set`,
+//! `image LAYOUT` and `drill SEED LINES`.
 ghost use Rattle.std.specs.Prelude.{◌≡◌, ◌≤◌, IfSome};
 ghost use Rattle.papr_edge.specs.Commands.{drill_of, image_of, reading_of, IsInRange};
 ghost use Rattle.papr_edge.specs.Commands as words;
@@ -8,14 +10,14 @@ use trace_read::number;
 /// The most lines that are generated.
 const MOST_LINES: u64 = 100_000;
 
-/// What the words behind the program's name ask for.
+/// What the words after the program's name ask for.
 #[derive(Clone, Copy, PartialEq, Eq, Debug)]
 pub enum Command {
     /// Runs the trace that is read, one line after the other.
     Run,
     /// Runs the trace that is read, with a thread for each processor that has lines.
     Par,
-    /// Judges whether the text behind a trace is that of a good run of it.
+    /// Judges whether the text after a trace is that of a good run of it.
     Check,
     /// Runs the set of partitions that is read, whose tables share one pool, one line after the
     /// other.

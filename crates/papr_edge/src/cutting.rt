@@ -1,3 +1,4 @@
+//! The input of `check`, cut at its line `replies`, and the count of an input's lines.
 ghost use Rattle.std.specs.Prelude.{◌≡◌, ◌≤◌, ◌+◌, ◌^◌, length, IfSome, IfNone, Some, None};
 ghost use Rattle.trace_read.specs.TextLines.{raw_lines};
 ghost use Rattle.papr_edge.specs.Inputs.{is_replies_line, cut_of};
@@ -14,7 +15,7 @@ fn is_replies(line: &[u8]) -> bool
     drop_cr(line) == REPLIES.as_bytes()
 }
 
-/// The bytes of the trace and those of the text behind it, where a line `replies` parts them.
+/// The bytes of the trace and those of the text after it, where a line `replies` parts them.
 #[tactic(auto, unfolding(crate::specs::Inputs::cut_of))]
 pub fn cut(bytes: &[u8]) -> Option<(&[u8], &[u8])>
     ensures some { IfSome result (λ parts. cut_of bytes.now ≡ Some (parts.0.now, parts.1.now)) }

@@ -1,3 +1,5 @@
+//! How a call ends: a text or the line of a refusal is written, and a failing sink makes the status
+//! a write fault.
 ghost use Rattle.std.specs.Prelude.{◌≡◌, ◌≢◌, ◌≤◌, IfOk, string_bytes};
 ghost use Rattle.trace_io.specs.Outside.{Rose, Put};
 ghost use Rattle.papr_edge.specs.Inputs.{refusal_text};

@@ -1,4 +1,4 @@
-//! What a command reads.
+//! The trait of what a command may read from its source, and the trace as such an input.
 ghost use Rattle.std.specs.Prelude.{◌≡◌, ◌≢◌, ℕ, List, IfOk, Result, Err};
 ghost use Rattle.trace_read.specs.Trace.{IsAccepted};
 ghost use Rattle.papr_edge.specs.Inputs.{trace_input};

@@ -1,5 +1,8 @@
 //! The edge of the program `papr`: what its words ask for, how its input is read and cut, how a
 //! text is written and an input refused, and the statuses.
+//!
+//! Main contracts: `command_of` is the table of words; `answer_input`: what was read, what was
+//! written, and the status.
 #![tactic(auto)]
 
 mod answer;

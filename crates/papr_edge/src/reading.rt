@@ -1,3 +1,4 @@
+//! The whole of a source as an input: its bytes within the limit, parsed, or why there is none.
 ghost use Rattle.std.specs.Prelude.{◌≡◌, ◌≢◌, ◌≤◌, IfOk, IfErr, Err, length};
 ghost use Rattle.trace_io.specs.Outside.{Rose};
 ghost use Rattle.trace_read.specs.Grammar.{most_bytes};

@@ -1,3 +1,5 @@
+//! The reasons that the line of a refusal can give, each as the word that is written: those of a
+//! trace, and a missing line `replies`.
 ghost use Rattle.std.specs.Prelude.{◌≡◌};
 ghost use Rattle.papr_edge.specs.Inputs.{reason_word};
 

@@ -1,3 +1,4 @@
+//! The exit statuses of the program, 0 to 6: one for each way in which a call can end.
 ghost use Rattle.std.specs.Prelude.{◌≡◌};
 ghost use Rattle.papr_edge.specs.Status.{status_number};
 

@@ -12,7 +12,7 @@ use std::process::ExitCode;
 use std::rt::Env;
 use trace_io::{StdSink, StdSource};
 
-/// The words behind the program's name.
+/// The words after the program's name.
 fn words(rt: &(impl Env + Alloc<A = Global>)) -> io::Result<Vec<String>> {
     Ok(env::args(rt)?.skip(1).collect(rt.alloc())?)
 }
@@ -20,7 +20,7 @@ fn words(rt: &(impl Env + Alloc<A = Global>)) -> io::Result<Vec<String>> {
 fn main(rt: HostRuntime) -> ExitCode {
     let words = match words(&rt) {
         Ok(words) => words,
-        // A word that isn't text is a wrong word. So are no words, which stand for it.
+        // A word that isn't text is a wrong word. So is a list of no words, which is used for it.
         Err(error) if error.kind() == ErrorKind::InvalidData => Vec::new(rt.alloc()),
         Err(_) => return ExitCode::from(Status::Memory.number()),
     };

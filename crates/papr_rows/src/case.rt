@@ -1,4 +1,5 @@
-//! What a case says.
+//! A case: the program's words and input, how they are read and the output is taken, and the status
+//! and the output that must result.
 
 use crate::copies::push_copies;
 use crate::miss::Miss;
@@ -14,7 +15,7 @@ pub struct Calls {
     pub fault: usize,
 }
 
-/// The words of the program and what it is given, and what must come of it.
+/// The words of the program and what it is given, and what must result.
 #[derive(Drop)]
 pub struct Case {
     /// The words of the program's command line.
@@ -33,14 +34,14 @@ pub struct Case {
     pattern: String,
 }
 
-/// Calls of which nothing is said.
+/// The calls of a case that says nothing of them.
 const CALLS: Calls = Calls {
     piece: 4096,
     fault: 0,
 };
 
 impl Case {
-    /// Nothing said.
+    /// A case of which nothing is said so far.
     pub fn new(alloc: Global) -> Self {
         Case {
             words: Vec::new(alloc),

@@ -1,9 +1,9 @@
-//! Copies of a pattern.
+//! Copies of a pattern of text, in which numbers rise from copy to copy.
 
 use crate::miss::Miss;
 use std::io::Write;
 
-/// Puts so many copies of a pattern behind a text. In it `{8+2}` stands for a number, which is 8 in
+/// Appends so many copies of a pattern to a text. In it `{8+2}` stands for a number, which is 8 in
 /// the first copy and 2 more in each further one; `{0x8+2}` is written in hexadecimal.
 pub fn push_copies(out: &mut Vec<u8>, pattern: &str, times: usize) -> Result<(), Miss> {
     for copy in 0..times as u64 {
@@ -14,7 +14,7 @@ pub fn push_copies(out: &mut Vec<u8>, pattern: &str, times: usize) -> Result<(),
     Ok(())
 }
 
-// The number that ends in a piece, if one does, and the text behind it.
+// The number that ends in a piece, if one does, and the text after it.
 fn push_piece(out: &mut Vec<u8>, piece: &str, copy: u64) -> Result<(), Miss> {
     let mut text = piece;
     if let Some((number, behind)) = piece.split_once('}') {

@@ -1,7 +1,7 @@
 //! Runs the program's calls over cases: words and an input, and the status and the text that must
-//! come of them. They stand in the file that the first word names; its head tells its commands. A
-//! line is written for each row of cases, and the last line counts the runs; the exit status is 1
-//! where one failed or a line couldn't be read.
+//! result. The first word names the file of the cases, whose head lists its commands. A line is
+//! written for each row of cases, and the last line counts the runs; the exit status is 1 where one
+//! failed or a line couldn't be read.
 #![tactic(auto)]
 
 mod case;

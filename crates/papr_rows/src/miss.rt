@@ -1,4 +1,4 @@
-//! Why a line isn't passed.
+//! The causes for which a line of a file of cases counts as failed, each with its words.
 
 use std::alloc::AllocError;
 

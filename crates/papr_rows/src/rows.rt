@@ -1,4 +1,5 @@
-//! Rows of cases, one after the other.
+//! Rows of cases, one after the other: their runs are made and counted, and a line is written for
+//! each row and each failure.
 
 use crate::case::Case;
 use crate::miss::Miss;
@@ -7,7 +8,7 @@ use std::io;
 use std::sync::Wait;
 use std::thread::Threads;
 
-/// Takes the lines of a file, writes what came of each row, and tells how many runs failed.
+/// Takes the lines of a file, writes the result of each row, and gives how many runs failed.
 pub fn take_lines<R: AllocGlobal + Print + Threads + Wait + Sync>(
     rt: &R,
     text: &str,
@@ -20,7 +21,7 @@ pub fn take_lines<R: AllocGlobal + Print + Threads + Wait + Sync>(
     Ok(rows.failed)
 }
 
-/// The row at work, and what came of all runs so far.
+/// The row at work, and how many runs passed and failed so far.
 #[derive(Drop)]
 struct Rows<'a> {
     alloc: Global,

@@ -1,4 +1,4 @@
--- What a call hands over: its answer, and what it puts into the caller's slots.
+-- What a call or a walk hands over: its answer, and what it puts into the caller's slots.
 use Rattle.std.specs.Prelude.{◌≡◌, ℕ, List, map}
 use Rattle.entry_model.specs.declared.hreply.HReply.{HReply}
 use Rattle.c_layout.specs.declared.receipts.PaprReceipt.{PaprReceipt}

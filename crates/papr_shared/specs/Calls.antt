@@ -1,4 +1,5 @@
--- Hypervisor calls on the running table: the pass before a call is x, and after it y.
+-- Hypervisor calls by a pass on the running table: those that end, and those that are held up. The
+-- pass before a call is x, and after it y.
 use Rattle.std.specs.Prelude.{◌≡◌, ◌≢◌, ◌⊎◌, ◌==◌, ◌++◌, ℕ, MatchBool, List, length, Option, Some, None}
 use Rattle.std.specs.Arc.{arc_value}
 use Rattle.papr_codes.specs.ReturnCodes.{rc_code}
@@ -49,7 +50,7 @@ pub record IsBegunNow (plan : Plan) (x y : Working) (h : Handed) : Type 0 where
   pub made : IsMade x y y.receipts
   pub tried : IsTried plan x y h
 
--- A call that went on: the new receipts are behind those that there were, and are all that were
+-- A call that went on: the new receipts follow those that there were, and are all that were
 -- made.
 pub record HasGoneOn (plan : Plan) (x y : Working) (h : Handed) : Type 0 where
   pub behind : y.receipts ≡ x.receipts ++ receipts_added x.receipts y.receipts

@@ -1,4 +1,4 @@
--- What C is told of a call that is held up, and what giving it up leaves.
+-- What C learns of a call or a walk that is held up, and what giving it up leaves.
 use Rattle.std.specs.Prelude.{◌≡◌, ℕ, List, length, Option, Some, None}
 use Rattle.entry_model.specs.declared.receipt.Receipt.{Receipt}
 use Rattle.entry_lock.specs.declared.busy.Busy.{Busy}
@@ -7,7 +7,7 @@ use Rattle.shared_pass.specs.declared.held.Pending.{Pending}
 use Rattle.shared_pass.specs.declared.held.Pending.TheVariants.{Nothing, Call, Walk}
 use Rattle.papr_shared.specs.declared.held_up.PaprBusy.{PaprBusy}
 
--- What C is told where there is nothing to go on with: all zero.
+-- What C learns where there is nothing to go on with: all zero.
 abbrev pub not_held_up : PaprBusy
 not_held_up = record { looked = 0; found = 0; entry = 0; done = 0; hold = 0 }
 
@@ -28,7 +28,7 @@ busy_by Nothing b rs = not_held_up
 busy_by (Call call) b rs = busy_at b rs 1
 busy_by (Walk walk) b rs = busy_at b rs 2
 
--- What holds a pass up, as C is told; a closed pass isn't held up.
+-- What holds a pass up, as C has it; a closed pass isn't held up.
 abbrev pub busy_of : Option Working → PaprBusy
 busy_of None = not_held_up
 busy_of (Some w) = busy_by w.pending w.busy w.receipts

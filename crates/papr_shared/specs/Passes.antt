@@ -1,5 +1,5 @@
--- What opening, splitting, joining and closing leave, and the code of each. A pass as C has it is
--- closed where it has nothing.
+-- What opening, splitting, joining and closing passes leave, and the code of each. A pass as C has
+-- it is closed where it has nothing.
 use Rattle.std.specs.Prelude.{◌≡◌, ◌⊎◌, ◌==◌, ◌&&◌, ℕ, ℤ, nat_le, nat_lt, Bool, MatchBool, if◌then◌else◌, List, length, Option, Some, None}
 use Rattle.std.specs.Arc.{arc_value}
 use Rattle.hpte_fields.specs.TableSize.{entry_count}

@@ -1,4 +1,5 @@
--- Walks on the running table: the pass before a walk is x, and after it y.
+-- Walks by a pass on the running table: those that end, and those that are held up. The pass before
+-- a walk is x, and after it y.
 use Rattle.std.specs.Prelude.{◌≡◌, ◌≢◌, ◌⊎◌, ◌++◌, List, length, map, min, Option, Some, None}
 use Rattle.std.specs.Arc.{arc_value}
 use Rattle.entry_model.specs.declared.receipt.Receipt.{Receipt}
@@ -19,13 +20,13 @@ use Rattle.shared_pass.specs.Attempts.{KeepsWalk}
 use Rattle.papr_shared.specs.Answers.{HandedWalk, IsRefusedWalk}
 
 -- ---- one try
--- What the receipts tell at the end: the entry that was found, as the walk left it, or that there
+-- What the receipts show at the end: the entry that was found, as the walk left it, or that there
 -- is none.
 abbrev pub end_told : PageWalk → List Receipt → List PaprReceipt → PaprWalk
 end_told w rs slots =
     walk_end after_of w.access w.want (found_of rs) (min (length slots) (length rs))
 
--- What is told while an entry is busy.
+-- The answer while an entry is busy.
 abbrev pub busy_told : List Receipt → List PaprReceipt → PaprWalk
 busy_told rs slots = no_entry 6 (min (length slots) (length rs))
 
@@ -54,7 +55,7 @@ pub record IsWalkBegun (w : PageWalk) (x y : Working) (h : HandedWalk) : Type 0 
   pub made : IsMade x y y.receipts
   pub walked : IsWalked w x y h
 
--- A walk that went on: the new receipts are behind those that there were, and are all that were
+-- A walk that went on: the new receipts follow those that there were, and are all that were
 -- made.
 pub record HasWalkedOn (w : PageWalk) (x y : Working) (h : HandedWalk) : Type 0 where
   pub behind : y.receipts ≡ x.receipts ++ receipts_added x.receipts y.receipts

@@ -1,3 +1,4 @@
+//! The rest of a hypervisor call that is held up, from its first operation that isn't made yet.
 ghost use Rattle.papr_shared.specs.Answers.{handed};
 ghost use Rattle.papr_shared.specs.Calls.{IsAgain};
 

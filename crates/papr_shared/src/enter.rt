@@ -1,3 +1,4 @@
+//! H_ENTER by one pass on the running table, checked against the list of grants.
 ghost use Rattle.call_plan.specs.Checks.{h_enter_plan};
 ghost use Rattle.c_layout.specs.Grants.{listed};
 ghost use Rattle.papr_shared.specs.Answers.{handed};

@@ -1,3 +1,5 @@
+//! Registers and receipts of a call handed to C, with whether cached translations have to be
+//! dropped.
 ghost use Rattle.entry_model.specs.Replies.{reply_with};
 ghost use Rattle.papr_shared.specs.Answers.{handed, HandsOver};
 

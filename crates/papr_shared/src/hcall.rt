@@ -1,3 +1,5 @@
+//! The choice of a hypervisor call on the running table by its number: the words of the registers
+//! are its arguments, and then the slots for the words that it gives.
 ghost use Rattle.c_layout.specs.Grants.{listed};
 ghost use Rattle.papr_shared.specs.Answers.{handed};
 ghost use Rattle.papr_shared.specs.Calls.{IsCall, numbered_plan};

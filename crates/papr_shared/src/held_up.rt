@@ -1,3 +1,5 @@
+//! What holds up the next operation of a pass: its entry, the control words of the last try, and
+//! whether another thread holds the lock or changes the word.
 ghost use Rattle.std.specs.Prelude.{◌≡◌};
 
 use shared_pass::{Pending, Working};

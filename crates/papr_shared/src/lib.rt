@@ -3,6 +3,9 @@
 //!
 //! Each thread has a pass, and no call waits. A call that finds an entry busy is kept by its pass,
 //! and goes on later.
+//!
+//! Main contracts: each `papr_try_..` and `papr_again`: `IsCall`, `IsAgain`; `papr_try_walk`,
+//! `papr_walk_again`; `papr_open`, `papr_split`, `papr_join`, `papr_close` with each code.
 #![tactic(auto)]
 
 mod again;

@@ -1,3 +1,5 @@
+//! The running table made from the caller's entries, with the first pass of it, from which all
+//! others are split.
 ghost use Rattle.std.specs.Prelude.{◌≡◌, ◌≤◌, ◌<◌, true, None, IfSome};
 ghost use Rattle.c_layout.specs.Entries.{states_of};
 ghost use Rattle.c_layout.specs.Tables.{is_table};

@@ -1,3 +1,5 @@
+//! Passes split off and joined, and the table closed: the pass with all shares writes the entries
+//! back, and those that changed are marked.
 ghost use Rattle.std.specs.Prelude.{◌≡◌, nat_le, true, length, Some, None, IfOk, IfErr};
 ghost use Rattle.std.specs.Arc.{arc_value};
 ghost use Rattle.hpte_fields.specs.TableSize.{entry_count};

@@ -1,3 +1,4 @@
+//! The call or the walk that a pass keeps: C may ask what holds it up, or give it up.
 ghost use Rattle.std.specs.Prelude.{◌≡◌};
 ghost use Rattle.papr_shared.specs.HeldUp.{busy_of, IsGivenUp};
 

@@ -1,3 +1,5 @@
+//! H_BULK_REMOVE by one pass on the running table, over its four pairs of words; any other count of
+//! words is refused.
 ghost use Rattle.call_plan.specs.Bulk.{h_bulk_remove_plan};
 ghost use Rattle.papr_shared.specs.Answers.{handed};
 ghost use Rattle.papr_shared.specs.Calls.{IsCall, IsBulkCall};
@@ -32,7 +34,7 @@ fn remove_pairs(
 }
 
 /// H_BULK_REMOVE (LoPAR): takes four pairs of words, each a request to remove an entry and the word
-/// of its test. The words are all eight, with a response in place of each request that was taken
+/// of its test. All eight words are given back: a response replaces each request that was taken
 /// up.
 #[unsafe(no_mangle)]
 pub extern "C" fn papr_try_h_bulk_remove(

@@ -1,3 +1,4 @@
+//! H_REMOVE, H_PROTECT, H_READ, H_CLEAR_REF and H_CLEAR_MOD by one pass on the running table.
 ghost use Rattle.call_plan.specs.Single as single;
 ghost use Rattle.papr_shared.specs.Answers.{handed};
 ghost use Rattle.papr_shared.specs.Calls.{IsCall};

@@ -1,3 +1,5 @@
+//! One try of a hypervisor call for C: at its end its reply is handed over, and where an entry is
+//! busy H_BUSY with the words so far.
 ghost use Rattle.std.specs.Arc.{arc_value};
 ghost use Rattle.call_plan.specs.Plans.{plan_of, Fits};
 ghost use Rattle.papr_shared.specs.Answers.{handed};

@@ -1,3 +1,5 @@
+//! Walks by one pass on the running table for C: one that finds an entry busy is kept by the pass,
+//! and goes on later.
 ghost use Rattle.std.specs.Prelude.{◌≡◌, map, IfOk, IfErr};
 ghost use Rattle.entry_model.specs.Receipt.{found_of};
 ghost use Rattle.c_layout.specs.Slots.{filled, shown_receipt};
@@ -14,7 +16,7 @@ use std::alloc::Global;
 /// An entry is busy.
 const BUSY: u32 = 6;
 
-/// Puts the receipts of a walk into the caller's slots, as far as these go, and tells how a try of
+/// Puts the receipts of a walk into the caller's slots, as far as these go, and gives how a try of
 /// it ended.
 fn hand_over_walk(
     working: &Working,

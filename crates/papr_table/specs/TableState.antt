@@ -1,4 +1,5 @@
--- What contracts see of a plain table.
+-- A plain table as contracts see it: its states and order, runs of receipts, and cached
+-- translations.
 use Rattle.std.specs.Prelude.{◌≡◌, ℕ, ◌<◌, List}
 use Rattle.entry_model.specs.State.{State}
 use Rattle.entry_model.specs.declared.line.Line.{Line}
@@ -17,11 +18,11 @@ pub record IsMade (old new : TableState) (receipts : List Receipt) : Type 0 wher
   pub run : IsRun old.states receipts new.states
   pub order : new.order ≡ old.order
 
--- ---- lines
--- A line is seen where it holds of its entry's state.
+-- ---- cached translations
+-- A cached translation is seen where it holds of its entry's state.
 abbrev pub IsSeen : TableState → Line → Type 0
 IsSeen t line = Holds line (state_at t.states line.entry)
 
--- It is gone where its entry's stamp is above the line's.
+-- It is gone where its entry's stamp is above its own.
 abbrev pub IsGone : TableState → Line → Type 0
 IsGone t line = line.stamp < (state_at t.states line.entry).stamp

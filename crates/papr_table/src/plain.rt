@@ -1,3 +1,5 @@
+//! The store of one caller: a list of entry states, where each operation is answered by the entry's
+//! own reply, with no lock and no waiting.
 ghost use Rattle.std.specs.Prelude.{◌≡◌, ◌≤◌, ◌<◌, ◌-◌, ◌^◌, vec_len};
 ghost use Rattle.hpte_fields.specs.TableSize.{IsTableOrder, entry_count};
 ghost use Rattle.entry_model.specs.Run.{state_at};
@@ -73,7 +75,7 @@ impl EntryStore for PlainTable {
         self.order
     }
 
-    // In line, so that a loop over entries doesn't store the operation anew for each of them.
+    // In line, so that a loop over entries doesn't store the operation again for each of them.
     #[inline(always)]
     fn apply(&mut self, entry: u32, op: Op) -> Receipt {
         let index = entry as usize;

@@ -25,7 +25,7 @@ as_image layout run WriteFault ends = ends
 as_image layout run Memory ends = ends
 as_image layout run CheckNo ends = ends
 
--- ---- where the source tells its input
+-- ---- where the bytes left are known
 -- The input is a trace, and the layout holds its image.
 abbrev pub IsHeld : Layout → Result AcceptedTrace (ℕ × Reason) → Type 0
 IsHeld layout read = IsOkAnd read (λ t. IsOk (image_output layout t))

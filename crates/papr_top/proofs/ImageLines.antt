@@ -72,7 +72,7 @@ entry_bytes layout index digits = four_words (codes "entry") (layout_word layout
 abbrev all_lines : List (List ℕ) → Layout → ℕ → List ℕ → List (List ℕ)
 all_lines head layout index digits = head ++ entry_bytes layout index digits ∷ codes "begin" ∷ []
 
--- Words apart by blanks, with LF and more behind them.
+-- Words apart by blanks, with LF and more after them.
 parts_joined :
     (w h d rest : List ℕ)
     → w ++ 32 ∷ ((h ++ 32 ∷ (d ++ 10 ∷ [])) ++ rest) ≡ (w ++ 32 ∷ (h ++ 32 ∷ d)) ++ 10 ∷ rest

@@ -105,12 +105,12 @@ lines_joined (x ∷ xs) ys =
     ∙ sym (append_assoc x (10 ∷ with_lfs xs) (with_lfs ys))
 
 -- ---- the bytes of words
--- A byte that may stand in a word.
+-- A byte that a word may have.
 pub record IsWordByte (c : ℕ) : Type 0 where
   pub low : 33 ≤ c
   pub high : c ≤ 126
 
--- Each byte of it may stand in a word.
+-- Each byte of it is one that a word may have.
 abbrev pub IsWord : List ℕ → Type 0
 IsWord word = AllByRecursion IsWordByte word
 

@@ -1,4 +1,4 @@
--- What a call of the program tells of its status, of its source and of its sink.
+-- What each exit status says of the bytes read and written, and of faults.
 use Rattle.std.specs.Prelude.{◌≡◌, ◌≢◌, ◌≤◌, ◌⊎◌, ℕ, Bool, true, false, Option, Some, None}
 use Rattle.trace_io.specs.Outside.{Rose}
 use Rattle.papr_edge.specs.Ends.{Run, IsAnswered}

@@ -27,7 +27,7 @@ abbrev pub with_lfs : List (List ℕ) → List ℕ
 with_lfs [] = []
 with_lfs (line ∷ rest) = line ++ 10 ∷ with_lfs rest
 
--- A trace of these lines, the line of an image behind `entry` and the word of its layout, and
+-- A trace of these lines, then `entry` with the word of a layout and the line of an image, and
 -- `begin`.
 abbrev pub bytes_again : List (List ℕ) → Layout → ℕ → List ℕ → List ℕ
 bytes_again head layout index digits =
@@ -39,15 +39,15 @@ bytes_again head layout index digits =
     ++ codes "begin\n"
 
 -- ---- the lines before
--- The reading behind these lines, where none is refused.
+-- The reading after these lines, where none is refused.
 abbrev pub reading_after : Reading → List (List ℕ) → Result Reading Why
 reading_after r [] = Ok r
 reading_after r (line ∷ rest) = do
   s ← after_line r line
   reading_after s rest
 
--- These lines are accepted, behind them an entry may come and then `begin`, and there is room for
--- two lines.
+-- These lines are accepted, an entry and then `begin` may follow them, and there is room for two
+-- lines.
 pub record MayHaveEntry (head : List (List ℕ)) (r : Reading) : Type 0 where
   pub lines : AllByRecursion (λ line. AllByRecursion (λ c. is_lf c ≡ false) line) head
   pub read : reading_after opening_reading head ≡ Ok r
@@ -71,7 +71,7 @@ pub record IsTraceWithEntry
         → state_at (opening_states trace.config) other ≡ state_at (opening_states c) other
 
 -- Each valid entry of each table that a serial run reaches, by its line in an image whose layout
--- can hold it, opens so behind lines of a trace with that table's order, the same grants, and
+-- can hold it, opens so after lines of a trace with that table's order, the same grants, and
 -- entries of lower indices alone.
 abbrev pub ImageLinesOpenAgain : Type 0
 ImageLinesOpenAgain =

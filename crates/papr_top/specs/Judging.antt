@@ -1,4 +1,4 @@
--- What is written of a text that is judged.
+-- The line and the exit status for each verdict on a judged text.
 use Rattle.std.specs.Prelude.{◌≡◌, List, ℕ, ◌++◌, codes}
 use Rattle.std.specs.Fmt.{decimal}
 use Rattle.history_check.specs.declared.verdict.Verdict.{Verdict}
@@ -9,7 +9,7 @@ use Rattle.papr_edge.specs.Inputs.{JudgedInput}
 use Rattle.papr_edge.specs.declared.status.Status.{Status}
 use Rattle.papr_edge.specs.declared.status.Status.TheVariants.{Done, CheckNo}
 
--- The line that tells a verdict.
+-- The line that states a verdict.
 abbrev pub verdict_text : Verdict → List ℕ
 verdict_text verdicts.Good = codes "good\n"
 verdict_text (verdicts.Bad section) = codes "bad section " ++ decimal section ++ codes "\n"
@@ -19,7 +19,7 @@ abbrev pub status_with : Verdict → Status
 status_with verdicts.Good = Done
 status_with (verdicts.Bad section) = CheckNo
 
--- The line that tells the verdict on the text that was read, for a trace that keeps the limits;
+-- The line that states the verdict on the text that was read, for a trace that keeps the limits;
 -- Good comes with Done, Bad with CheckNo.
 pub record IsVerdictText (input : JudgedInput) (status : Status) (text : List ℕ) : Type 0 where
   pub accepted : IsAccepted input.trace

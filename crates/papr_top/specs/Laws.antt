@@ -1,4 +1,4 @@
--- What is promised of the texts that the program writes.
+-- The law that what may be written of a trace under `run` or `par` is judged good.
 use Rattle.std.specs.Prelude.{ℕ, List, ◌⊎◌}
 use Rattle.trace_read.specs.Trace.{AcceptedTrace}
 use Rattle.history_check.specs.declared.verdict.Verdict.TheVariants.{Good}

@@ -1,4 +1,4 @@
--- What may be written of a trace.
+-- The texts that `run`, `par` and `drill` may write of a trace, and what is assured of them.
 use Rattle.std.specs.Prelude.{◌≡◌, ℕ, List, length}
 use Rattle.trace_read.specs.Trace.{AcceptedTrace, IsAccepted}
 use Rattle.trace_reply.specs.declared.reply.Reply.{Reply}

@@ -1,4 +1,4 @@
--- What the program answers and writes.
+-- What a call of the program leaves, by its words and its exit status.
 use Rattle.std.specs.Prelude.{ℕ, List, [], Option, Some, None, IsSomeAnd, IsOk, IsErr, codes}
 use Rattle.trace_read.specs.Trace.{AcceptedTrace}
 use Rattle.trace_gen.specs.Generated.{generated_trace}
@@ -51,8 +51,8 @@ IsOutcome (Some (commands.Drill seed lines)) run status =
     EndsDrill (generated_trace seed lines) run status
 
 -- ---- what a command needs
--- The words are a command, and the source tells the input that it reads; under `image` the layout
--- can hold each entry. A drill reads none.
+-- The words are a command, and the bytes left are known and an input that it reads; under `image`
+-- the layout can hold each entry. A drill reads none.
 abbrev pub HasInput : Option Command → Option (List ℕ) → Type 0
 HasInput None left = ⊥
 HasInput (Some (commands.Drill seed lines)) left = Unit {0}
@@ -61,8 +61,8 @@ HasInput (Some commands.Check) left = IsSomeAnd left (λ bytes. IsOk (judged_inp
 HasInput (Some commands.Set) left = IsSomeAnd left (λ bytes. IsOk (set_input bytes))
 HasInput (Some reading) left = IsSomeAnd left (λ bytes. IsOk (trace_input bytes))
 
--- The words are a command that reads, and what the source tells is no input of it, or under `image`
--- has an entry that the layout can't hold.
+-- The words are a command that reads, and the bytes left are known and no input of it, or under
+-- `image` there is an entry that the layout can't hold.
 abbrev pub HasRefusedInput : Option Command → Option (List ℕ) → Type 0
 HasRefusedInput None left = ⊥
 HasRefusedInput (Some (commands.Drill seed lines)) left = ⊥

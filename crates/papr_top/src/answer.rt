@@ -1,3 +1,5 @@
+//! The texts of `run`, `par` and `drill`: the replies of a serial or a parallel run, and the
+//! summary of a generated trace.
 ghost use Rattle.std.specs.Prelude.{◌≡◌, ◌≤◌, IfOk, string_bytes};
 ghost use Rattle.trace_gen.specs.Generated.{generated_trace};
 ghost use Rattle.papr_edge.specs.Answer.{IsAnswer};

@@ -1,3 +1,5 @@
+//! The answer of `image`: the valid entries of the page table after a serial run, in the layout
+//! asked for, or a refusal.
 ghost use Rattle.std.specs.Prelude.{◌≡◌, IfErr, IfOk, map, string_bytes};
 ghost use Rattle.table_image.specs.Image.{TellsOf};
 ghost use Rattle.papr_edge.specs.Answer.{IsAnswer};

@@ -1,3 +1,5 @@
+//! The input and the answer of `check`: a trace with recorded replies, and the judge's verdict on
+//! them.
 ghost use Rattle.std.specs.Prelude.{◌≡◌, ◌≢◌, IfOk, Err, string_bytes};
 ghost use Rattle.papr_edge.specs.Answer.{IsAnswer};
 ghost use Rattle.papr_top.specs.Judging.{IsVerdictText, verdict_text};
@@ -53,7 +55,7 @@ impl Input for Judged {
     ghost refuses_long = { long_judged };
 }
 
-/// The line that tells a verdict.
+/// The line that states a verdict.
 fn verdict_line(alloc: Global, verdict: Verdict) -> Result<String, AllocError>
     ensures { IfOk result (λ s. string_bytes s ≡ verdict_text verdict) }
 {
@@ -65,7 +67,7 @@ fn verdict_line(alloc: Global, verdict: Verdict) -> Result<String, AllocError>
     Ok(out)
 }
 
-/// The verdict on the text behind the trace.
+/// The verdict on the text after the trace.
 pub fn verdict_answer(alloc: Global, input: &Judged) -> Result<Answer, AllocError>
     ensures { IfOk result (λ answer. IsAnswer IsVerdictText input.now answer) }
 {

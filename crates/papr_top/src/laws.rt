@@ -12,7 +12,7 @@ pub fn written_texts_are_good()
 {}
 
 /// Each valid entry of a table that a serial run comes to, by its line in an image whose layout can
-/// hold it, opens again: behind `entry` and the word of the layout the line is accepted among the
+/// hold it, opens again: after `entry` and the word of the layout the line is accepted among the
 /// bytes of another trace, with the same grants and that table's order, whose table opens with the
 /// entry.
 pub fn image_lines_open_again()

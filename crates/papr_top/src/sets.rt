@@ -1,3 +1,5 @@
+//! The input and the answer of `set`: partitions whose page tables share one pool, and the replies
+//! of their run.
 ghost use Rattle.std.specs.Prelude.{◌≡◌, ◌≢◌, IfOk, Err};
 ghost use Rattle.papr_edge.specs.Answer.{IsAnswer};
 ghost use Rattle.papr_edge.specs.Ends.{WithDone};

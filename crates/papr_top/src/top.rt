@@ -1,3 +1,5 @@
+//! The program as one function of its words, source and sink: which command runs, with and without
+//! threads.
 ghost use Rattle.std.specs.Prelude.{◌≡◌, ◌≢◌, ◌≤◌, None, false, IfSome};
 ghost use Rattle.trace_io.specs.Outside.{Rose};
 ghost use Rattle.trace_gen.specs.Generated.{generated_trace};
@@ -87,7 +89,7 @@ fn run_command<S: Source, K: Sink>(
     }
 }
 
-/// All that the program does but `par`, with the words behind its name. It always returns.
+/// All that the program does but `par`, with the words after its name. It always returns.
 ///
 /// `run` reads the source to its end and writes the replies of the serial run: [`Status::Done`].
 /// An input that is no trace is refused with its first refused line and the reason:
@@ -129,7 +131,7 @@ pub fn papr_serial<S: Source, K: Sink>(
     run_command(alloc, command_of(words), source, sink)
 }
 
-/// All that the program does, with the words behind its name: [`papr_serial`], and `par`, which
+/// All that the program does, with the words after its name: [`papr_serial`], and `par`, which
 /// reads the source to its end, runs each processor's lines in a thread of its own, and writes the
 /// replies. They are a good run, which may be another one each time. The gate is called at each
 /// line; the program's own lets all pass. Under `par` a call may wait for another processor.

@@ -1,3 +1,5 @@
+//! Runs of the whole program, from its words and its input in memory to its status and the text
+//! that it writes.
 mod full_group;
 mod gates;
 mod long_trace;
@@ -8,7 +10,7 @@ use std::alloc::Global;
 use std::test::Fail;
 use trace_io::MemorySink;
 
-/// The words behind the program's name.
+/// The words after the program's name.
 fn list(alloc: Global, words: &[&str]) -> Result<Vec<String>, Fail> {
     let mut list = Vec::new(alloc);
     for word in words {

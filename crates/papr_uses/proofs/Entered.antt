@@ -97,7 +97,7 @@ entered states index dword0 dword1 rs mid empty low trial run =
           (enter_reply (state_at states index) dword0 dword1 empty low);
     }
 
--- What stands there then.
+-- The entry's state then.
 stands :
     (states : List State) (index dword0 dword1 : ℕ) (mid : List State)
     → IsEntered states index dword0 dword1 mid
@@ -184,7 +184,7 @@ remove_reply s dword0 dword1 low =
     (λ worn. omega arith) in
     rw fresh refl
 
--- What a removal tells, and the states after it.
+-- What a removal answers, and the states after it.
 pub record IsRemoved (states : List State) (index dword0 dword1 : ℕ) (reply : HReply)
     (new : List State) :
     Type 0 where

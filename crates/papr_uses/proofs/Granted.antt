@@ -50,7 +50,7 @@ none_holds grant offset p (other ∷ others) within apart =
       at later (inl kept) (inr passed) = rw (kept, passed) later
       at later (inr dropped) (inr passed) = rw dropped later
 
--- Behind grants of which none passes the first that does is found.
+-- After grants none of which passes the first that does is found.
 find_behind :
     (p : Grant → Bool) (xs : List Grant) (grant : Grant) (ys : List Grant)
     → find p xs ≡ None

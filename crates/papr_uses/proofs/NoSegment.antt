@@ -1,4 +1,4 @@
--- A processor without a segment and without a cached line.
+-- A processor without a segment and without a cached translation.
 use Rattle.std.proofs.Common.{◌≡◌, ℕ, zero, suc, List, [], replicate, Option, None, refl, subst}
 use Rattle.power_addr.specs.Pages.{VirtualPage}
 use Rattle.slb_model.specs.declared.segment.Segment.{Segment}

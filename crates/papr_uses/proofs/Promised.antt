@@ -1,4 +1,4 @@
--- What was written, with one promise in place of another.
+-- What was written, with one promise instead of another.
 use Rattle.std.proofs.Common.{ℕ, List, Option}
 use Rattle.trace_read.specs.Trace.{AcceptedTrace}
 use Rattle.trace_reply.specs.declared.reply.Reply.{Reply}

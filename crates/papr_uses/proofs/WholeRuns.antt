@@ -1,4 +1,4 @@
--- The program under `run` and `par`, over an input that is told whole.
+-- The program under `run` and `par`, over an input that is known whole.
 use Rattle.std.proofs.Common.{◌≡◌, ℕ, ◌<◌, List, [], ◌∷◌, ◌++◌, length, Some, Ok, Err, Result, IsOk, IsErr, String, string_bytes, codes, sym, refl, subst, ap, ◌∙◌, inl, inr, arith, lt-ltb}
 use Rattle.std.proofs.lemmas.Bool.{cases_lt}
 use Rattle.std.proofs.lemmas.List.{append-nil}
@@ -47,7 +47,7 @@ unfolding trace_of
 refused_long bytes longer = rw (lt-ltb _ _ longer) refl
 
 -- ---- the input of a trace
--- The reason is told otherwise, and nothing else.
+-- The reason is given in other words, and nothing else changes.
 still_ok : (r : Result AcceptedTrace (ℕ × Why)) → IsOk r → IsOk (with_reason r)
 still_ok (Ok t) is = is
 still_ok (Err e) is = is

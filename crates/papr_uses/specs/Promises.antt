@@ -29,8 +29,8 @@ use Rattle.papr_top.specs.Texts.{IsAssured, IsSerialAssured}
 abbrev pub Promise : Type 1
 Promise = AcceptedTrace → List Reply → Type 0
 
--- The bytes are a trace, and the text of replies to it that keep the promise was put behind what
--- was there.
+-- The bytes are a trace, and the text of replies to it that keep the promise was appended to
+-- what was there.
 pub record PutsReplies (promise : Promise) (bytes : List ℕ) (old new : Option (List ℕ)) :
     Type 0 where
   pub trace : AcceptedTrace
@@ -80,11 +80,12 @@ EachDeviceLands t rs = EachReplied (DeviceLands t.config.granted) t rs
 abbrev pub NoneIsHardware : Promise
 NoneIsHardware t rs = AllByRecursion IsUnworn rs
 
--- A hit uses a line that is current, and a walk goes past a cached line only where that is gone.
+-- A hit uses a line that is current, and a walk goes past a cached translation only where that is
+-- gone.
 abbrev pub CachesAreRight : Promise
 CachesAreRight t rs = AllByRecursion AccessesUseCaches (sections_of t rs)
 
--- An access is refused by a mask exactly where the entry allows it and the mask doesn't.
+-- An access is refused by a mask exactly if the entry allows it and the mask doesn't.
 abbrev pub MasksAreRight : Promise
 MasksAreRight t rs = AllByRecursion MasksRefuse (sections_of t rs)
 

@@ -1,4 +1,4 @@
--- The text of a run of a trace.
+-- When bytes are the text of a good run of a trace, and when a refusal is true of its input.
 use Rattle.std.specs.Prelude.{◌≡◌, ℕ, List, Option, Ok, Err}
 use Rattle.trace_io.specs.Outside.{Put}
 use Rattle.trace_read.specs.declared.parser.TraceError.{TraceError}
@@ -21,13 +21,13 @@ pub record IsTextOfBytes (bytes text : List ℕ) : Type 0 where
   pub accepted : trace_of bytes ≡ Ok trace
   pub told : IsTextOf trace text
 
--- Such a text was put behind what was there.
+-- Such a text was appended to what was there.
 pub record PutsTextOfBytes (bytes : List ℕ) (old new : Option (List ℕ)) : Type 0 where
   pub text : List ℕ
   pub told : IsTextOfBytes bytes text
   pub put : Put old text new
 
--- The bytes are no trace, by this line and reason; of want of memory nothing is told.
+-- The bytes are no trace, by this line and reason; of want of memory nothing is said.
 abbrev pub TellsRefusal : TraceError → List ℕ → Type 0
 TellsRefusal (errors.Line line why) bytes = trace_of bytes ≡ Err (line, why)
 TellsRefusal errors.Memory bytes = Unit {0}

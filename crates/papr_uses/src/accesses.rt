@@ -1,3 +1,4 @@
+//! A caller of `vcpu`: a new processor's access ends without a segment.
 ghost use Rattle.std.specs.Prelude.{◌≡◌, None, []};
 ghost use Rattle.entry_model.specs.declared.access_reply.Outcome.TheVariants.{NoSegment};
 

@@ -1,3 +1,4 @@
+//! A caller of `tlb_model`: a translation that is filled is found, and gone after it is dropped.
 ghost use Rattle.std.specs.Prelude.{◌≡◌, Some};
 ghost use Rattle.tlb_model.specs.Cache.{empty_cache};
 

@@ -1,3 +1,4 @@
+//! Callers of `papr_codes`: a hypervisor call's number gives the call, and the call its number.
 ghost use Rattle.std.specs.Prelude.{◌≡◌, IsTrue};
 ghost use Rattle.papr_codes.specs.Hcalls.{is_named};
 

@@ -1,3 +1,4 @@
+//! A caller of `frame_grants`: a byte of a range that was granted has its machine address.
 ghost use Rattle.std.specs.Prelude.{◌≡◌, ◌<◌, ◌+◌, None, Some, IfOk, MatchResult};
 ghost use Rattle.frame_grants.specs.Grants.{add_refusal};
 

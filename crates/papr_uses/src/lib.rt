@@ -1,4 +1,9 @@
 //! Callers of the crates, each proved from their public clauses alone.
+//!
+//! Main contracts: each caller's contract is proved from public clauses alone, for example
+//! `take_pair`, `enter_and_remove`, `resize`, `text_of_bytes`, `run_program`; each promise from the
+//! clause of `papr` and public laws, by `keep_promise` and a type for each, for example `Stores`,
+//! `Refusals`, `OneProcessor`.
 #![tactic(auto)]
 
 mod accesses;

@@ -1,3 +1,5 @@
+//! A caller of `lock_core`: whatever steps actors take on locked entries, each entry's history is
+//! legal.
 ghost use Rattle.std.specs.Prelude.{◌≡◌, ◌==◌, ◌||◌, ℕ, ◌<◌, nat_lt, All, Err, IfOk, OnOk, OnErr, IsOkUnless, MatchBool, length, reverse, slice_index_or};
 ghost use Rattle.entry_model.specs.History.{IsLegal, history};
 ghost use Rattle.entry_model.specs.Run.{state_at};

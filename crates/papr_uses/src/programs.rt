@@ -1,3 +1,4 @@
+//! A caller of the program's `run`, with an input and an output that never fail.
 ghost use Rattle.std.specs.Prelude.{◌≡◌, ◌≢◌, ◌⊎◌, IsOk, IsErr};
 ghost use Rattle.trace_io.specs.Memory.{taken_bytes};
 ghost use Rattle.trace_read.specs.Grammar.{trace_of};

@@ -120,7 +120,8 @@ impl KeptPromise for NoHardware {
     fn follows() {}
 }
 
-/// A hit uses a line that is current, and a walk passes over a cached line only where that is gone.
+/// A hit uses a line that is current, and a walk passes over a cached translation only where that
+/// is gone.
 pub struct Caches;
 
 impl KeptPromise for Caches {
@@ -131,7 +132,7 @@ impl KeptPromise for Caches {
     }
 }
 
-/// A mask refuses an access exactly where the entry allows it and the mask doesn't.
+/// A mask refuses an access exactly if the entry allows it and the mask doesn't.
 pub struct Masks;
 
 impl KeptPromise for Masks {

@@ -1,3 +1,5 @@
+//! A caller of `partition`: H_RESIZE_HPT_PREPARE until the table is ready, and then
+//! H_RESIZE_HPT_COMMIT.
 ghost use Rattle.std.specs.Prelude.{◌≡◌, ◌<◌, ◌-◌, ◌^◌, IfOk, OnErr};
 ghost use Rattle.papr_codes.specs.declared.codes.Rc.TheVariants.{Success};
 ghost use Rattle.partition.specs.PartitionState.{CountsTables, HasStates};

@@ -1,3 +1,5 @@
+//! Callers of the calls and the walk on a plain page table: H_ENTER, then H_READ or H_REMOVE; and
+//! the first entry of a page.
 ghost use Rattle.std.specs.Prelude.{◌≡◌, ◌<◌, ◌+◌, ◌-◌, ◌^◌, false, Some, [], ◌∷◌, find, slice_set};
 ghost use Rattle.hpte_fields.specs.TableSize.{entry_count};
 ghost use Rattle.std.specs.List.{AllByRecursion};

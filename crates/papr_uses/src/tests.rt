@@ -1,3 +1,5 @@
+//! What the tests of this crate share: smallest tables, entries, and replies as rows.
+
 mod enter;
 mod resize;
 mod update;
@@ -44,7 +46,7 @@ fn empty_table(alloc: Global) -> Result<PlainTable, AllocError>
     Ok(PlainTable::open(states, ORDER))
 }
 
-/// A smallest table whose entries are empty but for entry 0x20.
+/// A smallest table whose entries are empty except for entry 0x20.
 fn table_with(alloc: Global, state: EntryState) -> Result<PlainTable, AllocError> {
     let mut states = vec![in alloc; EntryState::empty(0); ENTRIES]?;
     states[0x20] = state;

@@ -1,3 +1,5 @@
+//! Callers that read or generate a trace, run it and write its replies: the text is that of a good
+//! run.
 ghost use Rattle.std.specs.Prelude.{◌≡◌, ◌≤◌, IfOk, IfErr, string_bytes};
 ghost use Rattle.trace_gen.specs.Generated.{generated_trace};
 ghost use Rattle.papr_uses.specs.RunText.{IsTextOf, IsTextOfBytes, TellsRefusal};

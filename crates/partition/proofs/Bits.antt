@@ -11,7 +11,7 @@ cleared zero mask masked low is differs = omega arith
 cleared (suc zero) mask masked low is differs = absurd (differs (omega arith))
 cleared (suc (suc n)) mask masked low is differs = absurd (omega arith)
 
--- One bit, as it stands.
+-- One bit, unchanged.
 one_bit :
     (word place : ℕ)
     → (if bit_and word (2 ^ place) == 2 ^ place then 2 ^ place else 0) ≡ bit_and word (2 ^ place)

@@ -45,7 +45,7 @@ has_place pool base order table None is sound large small nowhere =
     let fails : fits pool table base ≡ false = nowhere base in
     absurd (cc)
 
--- The grants are sound, and stand beside the configured pool.
+-- The configured pool is a range that a pool may have, since sound grants have it.
 pub sound_pool :
     (copied granted : GrantedMemory) (base order : ℕ)
     → grants.IsSound copied

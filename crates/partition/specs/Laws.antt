@@ -82,7 +82,7 @@ pub record IsSource (table : Table) (order : ℕ) (page : VirtualPage) (target :
   pub group : group_of page order (is_secondary (state_at table.states entry).dword0) ≡ target / 8
   pub slot : entry % 8 ≡ target % 8
 
--- The new table pairs a page with an entry exactly where one of the old table's bolted entries of
+-- The new table pairs a page with an entry exactly if one of the old table's bolted entries of
 -- the page goes there, and that entry has its doublewords, R and C.
 pub record PairsCarriedPages (old new : Table) : Type 0 where
   pub pairs :

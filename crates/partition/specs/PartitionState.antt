@@ -1,4 +1,5 @@
--- A partition while no call of a processor runs.
+-- A partition while no processor's call runs: its table memory, its grants, and what always holds
+-- of them.
 use Rattle.std.specs.Prelude.{◌≡◌, ◌≢◌, ◌+◌, ◌≤◌, ◌==◌, ◌||◌, IsTrue, [], length, Contains}
 use Rattle.hpt_pool.specs.Pool.{Block, IsSound, block_at}
 use Rattle.frame_grants.specs.Grants.{GrantedMemory}
@@ -31,8 +32,8 @@ abbrev pub with_memory : PartitionState → TableMemory → PartitionState
 with_memory partition memory = record partition { memory = memory }
 
 -- ---- the beginning
--- A table of the configured order with the configured entries, in a pool that is empty but for it,
--- beside the configured grants.
+-- A table of the configured order with the configured entries, which is the only one in the pool,
+-- and the configured grants.
 unfoldable pub opening_partition : Configuration → PartitionState
 opening_partition config = record {
   memory
@@ -63,9 +64,9 @@ pub record CountsTables (rc : Rc) (old new : PartitionState) : Type 0 where
 abbrev pub block_of : Table → Block
 block_of table = block_at table.place table.order
 
--- Orders are those that a table can have. The pool is sound, and it is the one that the grants
--- stand beside. The blocks of the current and of the pending table are taken in it, and they are
--- two.
+-- Orders are those that a table can have. The pool is sound, and has the base and the order that
+-- the granted memory has for it. The blocks of the current and of the pending table are taken in
+-- it, and they are two.
 pub record IsPartition (partition : PartitionState) : Type 0 where
   pub limit_fits : IsTableOrder partition.memory.limit
   pub order_fits : IsTableOrder partition.memory.table.order

@@ -18,7 +18,7 @@ pub fn commit_keeps_translations()
     ensures { CommitPairsCarriedPages }
 {}
 
-/// A new table that keeps each bolted page's translation pairs a page with an entry exactly where a
+/// A new table that keeps each bolted page's translation pairs a page with an entry exactly if a
 /// bolted entry of the page went there.
 pub fn kept_translations_are_paired()
     ensures { KeptTranslationsArePaired }

@@ -1,3 +1,5 @@
+//! A partition's page table, pending table, pool and grants in one value, with the two resize calls
+//! on it.
 ghost use Rattle.std.specs.Prelude.{◌≡◌, ◌-◌, ◌^◌, ◌<◌, ◌≤◌, [], length, true, None, IfOk, OnOk, OnErr};
 ghost use Rattle.hpt_pool.specs.Pool.{no_blocks};
 ghost use Rattle.hpte_fields.specs.TableSize.{entry_count};

@@ -1,3 +1,5 @@
+//! How a partition's first table is filled: with the configuration's entries as H_ENTER makes them,
+//! all at stamp 0.
 ghost use Rattle.std.specs.Prelude.{◌≡◌, IfOk};
 ghost use Rattle.entry_model.specs.Reply.{entered_state};
 ghost use Rattle.hpt_resize.specs.TableMemory.{empty_states, with_entries};

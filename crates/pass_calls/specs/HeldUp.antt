@@ -1,4 +1,4 @@
--- Calls that are held up, since somebody else is at an entry.
+-- When a hypervisor call is held up: the entry of its next operation is busy with somebody else.
 use Rattle.std.specs.Prelude.{◌≡◌, ℕ, List, length, Some, MatchBool}
 use Rattle.entry_model.specs.declared.operation.Op.{Op}
 use Rattle.entry_model.specs.declared.receipt.Receipt.{Receipt}
@@ -14,7 +14,7 @@ pub record IsBusyAt (entry : ℕ) (op : Op) (b : Busy) : Type 0 where
   pub of : b.entry ≡ entry
   pub cause : MatchBool (is_access op) (IsChanging b) (IsHeldElsewhere b)
 
--- There is a call behind those of the receipts, and it is busy.
+-- There is a call after those of the receipts, and it is busy.
 abbrev pub IsHeldUpAt : List Call → List Receipt → Busy → Type 0
 IsHeldUpAt cs rs b =
     (op : Op) × ((call_at cs (length rs) ≡ Some (b.entry, op)) × IsBusyAt b.entry op b)

@@ -1,3 +1,5 @@
+//! The plan of a hypervisor call, run on a store whose entries may be busy: the receipts so far say
+//! where it goes on.
 ghost use Rattle.std.specs.Prelude.{◌≡◌, ◌++◌, IfOk, IfErr, IsOk};
 ghost use Rattle.entry_model.specs.Replies.{reply_with};
 ghost use Rattle.entry_model.specs.Trial.{IsReplyOf, receipts_added};
@@ -39,7 +41,7 @@ fn try_removals<S: TriedStore>(
 }
 
 /// Makes the rest of a hypervisor call of which these receipts were made: none at first. The new
-/// ones are put behind them. At the end the reply is the one of the whole call.
+/// ones are put after them. At the end the reply is the one of the whole call.
 ///
 /// # Errors
 /// Busy where somebody else was at the next entry. The same plan with the receipts as they are then

@@ -1,3 +1,5 @@
+//! What calls that may be held up need of a store: operations that may find their entry busy, and
+//! laws of what was made between two moments.
 ghost use Rattle.std.specs.Prelude.{◌≡◌, ◌≤◌, ◌<◌, ◌++◌, [], ◌∷◌, List, ℕ, IfOk, IfErr, IsOk};
 ghost use Rattle.hpte_fields.specs.TableSize.{IsTableOrder, entry_count};
 ghost use Rattle.entry_model.specs.declared.receipt.Receipt.{Receipt};
@@ -13,8 +15,8 @@ pub trait TriedStore {
     /// Between two moments of one store its caller made just these receipts, in this order.
     ghost made: { Self → Self → List Receipt → Type 0 };
 
-    /// Between two moments of one store its caller took a step, the last of which was on this entry
-    /// and found these two words.
+    /// Between two moments of one store its caller took steps, the last of which was on this entry
+    /// and has the two control words of the answer.
     ghost told: { Self → Self → ℕ → Busy → Type 0 };
 
     /// The table has 2 ^ table_order bytes, and an entry has 16.
@@ -45,13 +47,13 @@ pub trait TriedStore {
     /// Between a moment and itself nothing was made.
     ghost made_none: { (s : Self) → made s s [] };
 
-    /// What was made in two stretches of time, one behind the other, was made in both together.
+    /// What was made in two stretches of time, one after the other, was made in both together.
     ghost made_more: { (first between last : Self) (early late : List Receipt)
         → made first between early
         → made between last late
         → made first last (early ++ late) };
 
-    /// What the last step found is told of a longer stretch of time with that end as well.
+    /// What the last step found holds also of a longer stretch of time with the same end.
     ghost told_since: { (first between last : Self) (receipts : List Receipt) (entry : ℕ) (b : Busy)
         → made first between receipts
         → told between last entry b

@@ -1,3 +1,5 @@
+//! The loop over the operations of a trial, from the first without a receipt to one that ends the
+//! trial or is busy.
 ghost use Rattle.std.specs.Prelude.{◌≡◌, ◌++◌, IfOk, IfErr, IsOk};
 ghost use Rattle.entry_model.specs.Trial.{IsTrial, ending_of, receipts_added};
 ghost use Rattle.entry_model.specs.Calls.{AreCallsIn};
@@ -8,7 +10,7 @@ use crate::tried::TriedStore;
 use entry_lock::Busy;
 use entry_model::{CallList, Receipt, Receipts};
 
-/// Makes the rest of a trial of which these receipts were made. The new ones are put behind them.
+/// Makes the rest of a trial of which these receipts were made. The new ones are put after them.
 /// Gives back the receipt that ended the trial, or `None` where the answers went on to the last
 /// call.
 ///

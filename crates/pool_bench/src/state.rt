@@ -1,3 +1,5 @@
+//! The pools that are timed (empty, full or fragmented), and the pairs of a take and a give that
+//! are made on them.
 ghost use Rattle.std.specs.Prelude.{◌≢◌, ◌≤◌, All, AllPairs, Contains, IfOk, OnOk};
 ghost use Rattle.hpt_pool.specs.Pool.{block_at};
 ghost use Rattle.pool_range.specs.Ranges.{least_pool_order};
@@ -60,7 +62,7 @@ fn take_leaves(pool: &mut Pool, count: u32) {
     }
 }
 
-// Takes so many pairs of leaves, and tells the second of each.
+// Takes so many pairs of leaves, and gives the place of the second of each.
 fn take_pairs(alloc: Global, pool: &mut Pool, count: u32) -> Result<Vec<u64>, AllocError>
     ensures held { IfOk result
         (λ places. All (λ place. Contains pool.new.taken (block_at place 18)) places.items) }

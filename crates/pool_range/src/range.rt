@@ -1,3 +1,5 @@
+//! The machine range for page tables, checked once: its order is 18 to 34, it is aligned to its
+//! size, and it ends at 2^60 or below.
 ghost use Rattle.std.specs.Prelude.{◌≡◌, ◌≤◌, ◌^◌, Some, None, IfOk, MatchResult};
 ghost use Rattle.pool_range.specs.Ranges.{IsPoolRange, range_refusal, greatest_pool_order};
 

@@ -2,7 +2,7 @@
 use Rattle.std.proofs.Common.{◌≡◌, ◌-◌, ◌^◌, true, false, refl}
 use Rattle.power_addr.specs.Pages.{virtual_page, is_page, page_at_address, virtual_address, tag_of}
 
--- Page 5 of 4 KB in the 256 MB segment 1: the offset 0x5000 behind the segment's number.
+-- Page 5 of 4 KB in the 256 MB segment 1: the segment's number, followed by the offset 0x5000.
 small_address : virtual_address (virtual_page false 1 12 5) ≡ 0x10005000
 small_address = refl
 
@@ -12,7 +12,7 @@ unfolding tag_of
 small_tag = refl
 
 -- Page 5 of 16 GB in the 1 TB segment 0x12345: the offset is 5 * 2 ^ 34 = 0x1400000000, in ten
--- hexadecimal digits behind the segment's number.
+-- hexadecimal digits that follow the segment's number.
 huge_address : virtual_address (virtual_page true 0x12345 34 5) ≡ 0x123451400000000
 huge_address = refl
 

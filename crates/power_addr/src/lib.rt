@@ -4,6 +4,9 @@
 //!
 //! Power ISA 2.07 Book III-S, virtual address generation (segments) and virtual to real translation
 //! (the abbreviated virtual page number, which is the tag).
+//!
+//! Main contracts: `Page::new` gives the page exactly if each part is in range; `of_address`;
+//! `tag`.
 #![tactic(auto)]
 
 mod page;

@@ -1,3 +1,5 @@
+//! A virtual page with each part in range, made from its parts or from an effective address, and
+//! its tag in page table entries.
 ghost use Rattle.std.specs.Prelude.{◌≡◌, ◌%◌, ◌^◌, Some, IfSome};
 ghost use Rattle.power_addr.specs.Pages.{IsPage, virtual_page, first_page, page_of_parts, page_of_address, is_vsid, is_base_shift, offset_bits, segment_code_of, tag_of};
 
@@ -12,7 +14,7 @@ const LARGE_OFFSET_BITS: u32 = 40;
 /// The bits of a virtual address, and so of a segment's number and offset together.
 const ADDRESS_BITS: u32 = 78;
 
-/// Where an abbreviated virtual page number stands in the upper doubleword of an entry.
+/// The bits of an entry's upper doubleword that hold an abbreviated virtual page number.
 const VIRTUAL_PAGE_NUMBER: u64 = 0x3FFF_FFFF_FFFF_FF80;
 
 /// A page of the virtual address space, each of its parts in range.
@@ -126,7 +128,7 @@ impl Page {
         self.index
     }
 
-    /// B and the abbreviated virtual page number, as they stand in the upper doubleword of an entry
+    /// B and the abbreviated virtual page number, as they are in the upper doubleword of an entry
     /// of this page, with the low seven bits 0.
     pub fn tag(&self) -> u64
         ensures value { result ≡ tag_of self.now }

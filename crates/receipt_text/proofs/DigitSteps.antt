@@ -27,8 +27,8 @@ digits_one base d small =
     let same : d % base ≡ d = mod-eq_of_lt small in
     rw (none, same) refl
 
--- ---- a digit behind others
--- Nothing is left behind the last digit.
+-- ---- a digit after others
+-- Nothing is left after the last digit.
 none_left : (base n : ℕ) → 0 < base → n < base ^ (0 + 1) → n / base ≡ 0
 none_left base n some small =
     let less : n / base < base ^ 0 = fewer base n 0 some small in

@@ -202,8 +202,8 @@ one_mark m n s t e =
     let answer : m.answer ≡ n.answer = answer_same m.answer n.answer c.1 in
     λ i. record { entry = entry i; stamp = stamp i; bits = bits i; answer = answer i }
 
--- ---- marks behind spaces
--- A text that is empty or begins with a space: with a space behind it, it begins with one.
+-- ---- marks after spaces
+-- A text that is empty or begins with a space: with a space after it, it begins with one.
 pub record IsBehindWord (x : List ℕ) : Type 0 where
   pub rest : List ℕ
   pub moved : x ++ 32 ∷ [] ≡ 32 ∷ rest
@@ -237,7 +237,7 @@ cut_word u v x y h k s t e =
     let c = cut_at 32 u v s.rest t.rest h k longer in
     (c.0, append_cancel_right x y (32 ∷ []) (s.moved ∙ ap (λ z. 32 ∷ z) c.1 ∙ sym t.moved))
 
--- What is left of a text's marks behind the first of them.
+-- What is left of a text's marks after the first of them.
 pub record AreFurther (ms ns : List Mark) (rest : List ℕ) : Type 0 where
   pub others : List Mark
   pub all : ns ≡ ms ++ others

@@ -28,7 +28,7 @@ no_start x y a P e h = at (cases_Bool (x == 32)) where
   at (inl q) = rw (q, e) h
   at (inr q) = rw q h
 
--- Behind a front without a bar.
+-- After a front without a bar.
 bar_behind : (a rest : List ℕ) → lacks 124 a ≡ true → behind_bar (a ++ 32 ∷ 124 ∷ rest) ≡ Some rest
 bar_behind [] rest h = refl
 bar_behind (x ∷ []) rest h = no_start x 32 (124 ∷ rest) (λ o. o ≡ Some rest) refl refl

@@ -1,4 +1,4 @@
--- Texts that are cut at a byte.
+-- Texts that are cut at a byte: those that lack it, and the words that a cut leaves.
 use Rattle.std.specs.Prelude.{ℕ, ◌==◌, Bool, true, false, List, [], ◌∷◌, Option, Some, None, if◌then◌else◌}
 use Rattle.std.specs.Borrow.{Bor}
 

@@ -1,4 +1,4 @@
--- What the text of receipts tells of them.
+-- What is proved of marks: a line has those of its receipts, and one list of them at most.
 use Rattle.std.specs.Prelude.{◌≡◌, ℕ, ◌≤◌, true, List, ◌++◌, length, map}
 use Rattle.std.specs.List.{AllByRecursion}
 use Rattle.entry_model.specs.declared.receipt.Receipt.{Receipt}

@@ -9,7 +9,7 @@ abbrev pub is_bar : ℕ → List ℕ → Bool
 is_bar c [] = false
 is_bar c (d ∷ ds) = (c == 32) && (d == 124)
 
--- What stands behind the first space and bar of a line.
+-- What follows the first space and bar of a line.
 abbrev pub behind_bar : List ℕ → Option (List ℕ)
 behind_bar [] = None
 behind_bar (c ∷ cs) = if is_bar c cs then Some (drop 1 cs) else behind_bar cs

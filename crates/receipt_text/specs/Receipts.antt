@@ -35,7 +35,7 @@ mark_word m =
     ++ codes "."
     ++ answer_word m.answer
 
--- The word of a mark, behind a space.
+-- The word of a mark, after a space.
 abbrev pub mark_text : Mark → List ℕ
 mark_text m = codes " " ++ mark_word m
 
@@ -52,7 +52,7 @@ mark_of r = record {
 abbrev pub receipt_text : Receipt → List ℕ
 receipt_text r = mark_text (mark_of r)
 
--- The receipts of a reply, behind a bar; nothing where there are none.
+-- The receipts of a reply, after a bar; nothing where there are none.
 abbrev pub receipts_text : List Receipt → List ℕ
 receipts_text [] = []
 receipts_text (r ∷ rs) = codes " |" ++ flat_map receipt_text (r ∷ rs)

@@ -1,8 +1,10 @@
+//! Where a text is cut: a line at its first space and bar, words at their first space, and any text
+//! at a given byte.
 ghost use Rattle.std.specs.Prelude.{◌≡◌, ◌++◌, ◌∷◌, true, Some, None, IfSome, IfNone};
 ghost use Rattle.receipt_text.specs.Cuts.{lacks, words_left};
 ghost use Rattle.receipt_text.specs.Marks as marks;
 
-/// Whether a space and a bar stand first.
+/// Whether these bytes begin with a space and a bar.
 fn is_bar(first: u8, others: &[u8]) -> bool
     ensures { result ≡ marks.is_bar first others.now }
 {
@@ -12,7 +14,7 @@ fn is_bar(first: u8, others: &[u8]) -> bool
     }
 }
 
-/// What stands behind the first space and bar of a line.
+/// What follows the first space and bar of a line.
 pub fn behind_bar(line: &[u8]) -> Option<&[u8]>
     ensures some { IfSome result (λ rest. marks.behind_bar line.now ≡ Some rest.now) }
     ensures none { IfNone result (marks.behind_bar line.now ≡ None) }
@@ -27,7 +29,7 @@ pub fn behind_bar(line: &[u8]) -> Option<&[u8]>
     None
 }
 
-/// What stands before the first such byte, and what stands behind it.
+/// What a text has before the first such byte, and what it has after it.
 pub fn split_at(text: &[u8], byte: u8) -> Option<(&[u8], &[u8])>
     ensures lacks { IfSome result (λ parts. lacks byte parts.0.now ≡ true) }
     ensures parts { IfSome result (λ parts. text.now ≡ parts.0.now ++ byte ∷ parts.1.now) }
@@ -41,7 +43,7 @@ pub fn split_at(text: &[u8], byte: u8) -> Option<(&[u8], &[u8])>
     None
 }
 
-/// The first of words that a space each parts, and the others.
+/// The first of words with one space between each two, and the others.
 pub fn first_word(words: &[u8]) -> (&[u8], Option<&[u8]>)
     ensures word { lacks 32 result.0.now ≡ true }
     ensures parts { words.now ≡ result.0.now ++ words_left result.1 }

@@ -1,3 +1,5 @@
+//! Numbers below 2^32 read from their digits, in bases 2 to 16, by the one spelling in which they
+//! are written.
 ghost use Rattle.std.specs.Prelude.{◌≡◌, ◌<◌, ◌≤◌, ◌^◌, ◌↔◌, ℕ, false, length, slice_index, IsTrue, IfSome, IfNone};
 ghost use Rattle.std.specs.Fmt.{digit_glyph, digits};
 

@@ -1,5 +1,8 @@
-//! The texts of numbers and of receipts, byte for byte, and what the text of receipts shows of
-//! them.
+//! The text of receipts, byte for byte, and the marks that are read back from it: what a reply's
+//! line shows of each receipt.
+//!
+//! Main contracts: `put_receipts`: byte for byte; `marks_of`: the marks of a line, or `None`
+//! exactly if what follows its bar isn't 1 to 16 marks in their spelling.
 #![tactic(auto)]
 
 mod cuts;

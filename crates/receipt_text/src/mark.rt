@@ -1,3 +1,4 @@
+//! A mark, which is the part of a receipt that a reply's line shows, and lists of up to 16 marks.
 ghost use Rattle.std.specs.Prelude.{◌≡◌, ◌<◌, ◌≤◌, ◌++◌, [], ◌∷◌, length};
 
 use arrayvec::ArrayVec;

@@ -1,3 +1,5 @@
+//! Marks read back from a reply's line: of each receipt the entry's index, its stamp, R and C, and
+//! the word of the answer.
 ghost use Rattle.std.specs.Prelude.{◌≡◌, ◌<◌, ◌^◌, ℕ, List, IfSome, IfNone};
 ghost use Rattle.std.specs.Fmt.{decimal};
 ghost use Rattle.entry_model.specs.declared.operation.Answer.{Answer};
@@ -73,7 +75,7 @@ fn mark_in(word: &[u8]) -> Option<Mark>
     })
 }
 
-/// The marks that a text is, each behind a space: 1 to 16.
+/// The marks that a text is, each after a space: 1 to 16.
 fn spelt_marks(text: &[u8]) -> Option<Marks>
     ensures some { IfSome result (λ ms. AreSpelt text.now ms) }
     ensures none { IfNone result ((ms : List Mark) → AreSpelt text.now ms → ⊥) }
@@ -91,10 +93,10 @@ fn spelt_marks(text: &[u8]) -> Option<Marks>
     Some(marks)
 }
 
-/// The marks of a reply's line, which stand behind its first space and bar. A line without these
-/// has none.
+/// The marks of a reply's line, which follow its first space and bar. A line without these has
+/// none.
 ///
-/// `None` where what stands there isn't 1 to 16 marks, each behind a space and spelt
+/// `None` where what follows isn't 1 to 16 marks, each after a space and spelt
 /// `ENTRY.STAMP.BITS.ANSWER`: the entry's index as `0x` and lower-case hexadecimal digits, its
 /// stamp in decimal ones, both below 2^32 and without leading zeros; `0` to `3` for R and C; the
 /// answer's word.

@@ -1,3 +1,5 @@
+//! The text of receipts in a reply's line, each put together in a small array from its last piece
+//! to its first.
 ghost use Rattle.std.specs.Prelude.{◌≡◌, ◌≤◌, ◌+◌, ◌*◌, ◌++◌, length, drop, codes, OnOk, OnErr, string_bytes};
 ghost use Rattle.std.specs.Fmt.{decimal};
 ghost use Rattle.std.specs.Io.{StartsWith};
@@ -48,7 +50,7 @@ fn bits(state: &EntryState) -> &'static str
     }
 }
 
-/// Writes a receipt, behind a space, so that it ends where the text does. Returns where it starts.
+/// Writes a receipt, after a space, so that it ends where the text does. Returns where it starts.
 fn write_receipt(receipt: &Receipt, text: &mut [u8; RECEIPT_ROOM]) -> usize
     ensures within { result ≤ length text.old }
     ensures short { 14 ≤ result }
@@ -63,7 +65,7 @@ fn write_receipt(receipt: &Receipt, text: &mut [u8; RECEIPT_ROOM]) -> usize
     write_piece(" ", text, entry)
 }
 
-/// A receipt, behind a space. It is put together apart, so that the string is appended to once.
+/// A receipt, after a space. It is put together apart, so that the string is appended to once.
 fn put_receipt(out: &mut String, receipt: &Receipt) -> Result<(), AllocError>
     ensures text { OnOk
         result
@@ -76,7 +78,7 @@ fn put_receipt(out: &mut String, receipt: &Receipt) -> Result<(), AllocError>
     out.push_str(unsafe { std::str::from_utf8_unchecked(&text[start..]) })
 }
 
-/// The receipts of a reply, each behind a space, and a bar before the first.
+/// The receipts of a reply, each after a space, and a bar before the first.
 #[tactic(auto, using(number_text::proofs::Prefixes::starts_before))]
 pub fn put_receipts(out: &mut String, receipts: &[Receipt]) -> Result<(), AllocError>
     ensures text { OnOk

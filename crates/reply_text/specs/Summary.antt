@@ -1,4 +1,4 @@
--- The summary of a run: twelve numbers, each behind its word.
+-- The summary of a run: twelve numbers, each after its word.
 use Rattle.std.specs.Prelude.{◌≡◌, ℕ, ◌++◌, Bool, true, false, List, [], ◌∷◌, length, count_by, Option, Some, codes}
 use Rattle.std.specs.List.{flat_map}
 use Rattle.std.specs.Fmt.{decimal}

@@ -1,4 +1,4 @@
--- The text of replies: one line for each, but a dump's, which has a further line for each entry.
+-- The text of replies: one line for each, and for a dump a further line for each valid entry.
 use Rattle.std.specs.Prelude.{ℕ, ℤ, Bool, List, [], ◌∷◌, ◌++◌, length, Option, Some, None, if◌then◌else◌, codes}
 use Rattle.std.specs.List.{flat_map}
 use Rattle.std.specs.Fmt.{decimal, signed_decimal}
@@ -45,7 +45,7 @@ mask_word masks.Iamr = codes "iamr"
 abbrev pub device_word : Bool → List ℕ
 device_word write = if write then codes "dmawrite" else codes "dmaread"
 
--- The word behind the processor: a call's name where the line spelt it, else `hcall`.
+-- The word after the processor: a call's name where the line spelt it, else `hcall`.
 abbrev pub name_of : Act → List ℕ
 name_of (acts.Call number args spelt) =
     if spelt then hcall_name (hcall_of number) else codes "hcall"
@@ -61,11 +61,11 @@ unfoldable pub head_text : ℕ → ℕ → List ℕ → List ℕ
 head_text number cpu name = decimal number ++ codes " " ++ decimal cpu ++ codes " " ++ name
 
 -- ---- hypervisor calls
--- A word of a reply, behind a space.
+-- A word of a reply, after a space.
 abbrev pub word_text : ℕ → List ℕ
 word_text w = codes " " ++ hex w
 
--- A return code, behind a space.
+-- A return code, after a space.
 unfoldable pub code_text : ℤ → List ℕ
 code_text code = codes " " ++ signed_decimal code
 
@@ -84,7 +84,7 @@ outcome_text outcomes.NoPage = codes " nopage"
 outcome_text outcomes.NoSegment = codes " nosegment"
 outcome_text (outcomes.Ungranted address) = codes " ungranted " ++ hex address
 
--- The word for what an access ended by: a cached line or a walk.
+-- The word for what an access ended by: a cached translation or a walk.
 abbrev pub way_text : Option By → List ℕ
 way_text (Some ways.Hit) = codes " hit"
 way_text (Some ways.Walk) = codes " walk"
@@ -112,7 +112,7 @@ abbrev pub verdict_text : Bool → List ℕ
 verdict_text accepted = if accepted then codes " ok\n" else codes " refused\n"
 
 -- ---- dumps
--- Index, both doublewords with R and C, and stamp, each behind a space.
+-- Index, both doublewords with R and C, and stamp, each after a space.
 unfoldable pub entry_text : ℕ × State → List ℕ
 entry_text x =
     codes " "

@@ -1,3 +1,4 @@
+//! The nine counts of a summary, each with its word and with the replies that it counts.
 ghost use Rattle.std.specs.Prelude.{◌≡◌};
 ghost use Rattle.reply_text.specs.Summary.{all_counted, counted_word, counts_code, counts_end, counts_kind};
 

@@ -1,3 +1,4 @@
+//! Nine running totals, raised as each reply is made, so that a summary needs no list of replies.
 ghost use Rattle.std.specs.Prelude.{◌≡◌, ◌+◌, ◌^◌, ◌<◌, if◌then◌else◌};
 ghost use Rattle.reply_text.specs.declared.counted.Counted.{Counted};
 ghost use Rattle.trace_reply.specs.Slots.{reply_in};

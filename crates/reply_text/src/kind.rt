@@ -1,3 +1,5 @@
+//! The part of a reply on which its counts depend: a call's return code, or where an access ended
+//! and by what.
 ghost use Rattle.std.specs.Prelude.{◌≡◌};
 ghost use Rattle.reply_text.specs.Summary.{kind_of};
 ghost use Rattle.trace_reply.specs.Slots.{reply_in};

@@ -1,5 +1,7 @@
 //! The texts of replies, byte for byte: a line for each reply, the lines of a dump, and the summary
 //! of a drill.
+//!
+//! Main contracts: `put_reply`, `text_of`, `summary_of`, `summary_of_counts`: byte for byte.
 #![tactic(auto)]
 
 mod counted;

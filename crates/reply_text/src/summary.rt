@@ -1,3 +1,5 @@
+//! The twelve rows of a run's summary as text, from a list of replies or from totals raised during
+//! the run.
 ghost use Rattle.std.specs.Prelude.{◌≡◌, ◌++◌, OnOk, OnErr, IfOk, string_bytes, length, count_by};
 ghost use Rattle.std.specs.List.{flat_map};
 ghost use Rattle.std.specs.Io.{StartsWith};
@@ -45,9 +47,9 @@ fn changed_count(entries: &[(u32, EntryState)]) -> usize
     entries.iter().filter(|entry| entry.1.changed).count()
 }
 
-/// How many entries a table has, and how many of them have C.
+/// How many valid entries a table has, and how many of them have C.
 #[tactic(auto, unfolding(crate::specs::Summary::entries_text))]
-fn put_entries(out: &mut String, entries: &[(u32, EntryState)]) -> Result<(), AllocError>
+fn put_entry_counts(out: &mut String, entries: &[(u32, EntryState)]) -> Result<(), AllocError>
     ensures text { OnOk
         result
         (string_bytes out.new ≡ string_bytes out.old ++ entries_text entries.now) }
@@ -72,7 +74,7 @@ pub fn summary_of_counts(
     let mut out = String::new(alloc);
     put_row(&mut out, "lines", lines as u64)?;
     put_counts(&mut out, counts, &Counted::all())?;
-    put_entries(&mut out, table.states.as_slice())?;
+    put_entry_counts(&mut out, table.states.as_slice())?;
     Ok(out)
 }
 
@@ -88,7 +90,8 @@ fn count_replies(replies: &[Reply]) -> Counts
 }
 
 /// The summary of a run: how many run lines there are, how many hypervisor calls, accesses and
-/// hits, how they ended, and how many entries the table at the end has, with and without C.
+/// hits, how they ended, and how many valid entries the table at the end has, and how many of these
+/// have C.
 pub fn summary_of(
     alloc: Global,
     trace: &Trace,

@@ -1,3 +1,5 @@
+//! The text of each kind of reply, and of a dump's table and entries, appended to a string piece by
+//! piece.
 ghost use Rattle.std.specs.Prelude.{◌≡◌, ◌≤◌, ◌+◌, ◌*◌, ◌++◌, false, IsOk, OnOk, OnErr, IfOk, string_bytes, string_len, string_capacity, length};
 ghost use Rattle.std.specs.List.{flat_map};
 ghost use Rattle.std.specs.Io.{StartsWith};
@@ -56,7 +58,7 @@ fn device_name(write: bool) -> &'static str
     if write { "dmawrite" } else { "dmaread" }
 }
 
-/// The word behind the processor in a reply's line.
+/// The word after the processor in a reply's line.
 #[tactic(auto, using(crate::proofs::Lengths::hcall_name_short))]
 fn name(act: &Act) -> &'static str
     ensures value { result.now ≡ name_of act.now }
@@ -96,7 +98,7 @@ fn put_head(out: &mut String, line: &TraceLine) -> Result<(), AllocError>
     out.push_str(name(&line.act))
 }
 
-/// The words of a reply, each behind a space.
+/// The words of a reply, each after a space.
 #[tactic(auto, using(number_text::proofs::Prefixes::starts_before))]
 fn put_words(out: &mut String, words: &[u64]) -> Result<(), AllocError>
     ensures text { OnOk
@@ -111,7 +113,7 @@ fn put_words(out: &mut String, words: &[u64]) -> Result<(), AllocError>
     Ok(())
 }
 
-/// A return code, behind a space.
+/// A return code, after a space.
 #[tactic(auto, using(crate::proofs::Lengths::code_short), unfolding(crate::specs::Text::code_text))]
 fn put_code(out: &mut String, rc: Rc) -> Result<(), AllocError>
     ensures text { OnOk
@@ -165,7 +167,7 @@ fn put_outcome(out: &mut String, outcome: Outcome) -> Result<(), AllocError>
     }
 }
 
-/// The word for what an access ended by, a cached line or a walk, with a space before it.
+/// The word for what an access ended by, a cached translation or a walk, with a space before it.
 fn way(by: Option<By>) -> &'static str
     ensures value { result.now ≡ way_text by }
     ensures short { length result.now ≤ 5 }
@@ -247,7 +249,7 @@ fn put_verdict(out: &mut String, accepted: bool) -> Result<(), AllocError>
 }
 
 /// Appends the line of an entry in a dump: its index, both doublewords, and its stamp. Where memory
-/// ends, the text that was there stands, with perhaps a part of the line behind it.
+/// ends, the text that was there stays, with perhaps a part of the line after it.
 #[tactic(auto, unfolding(crate::specs::Text::entry_text))]
 pub fn put_entry(out: &mut String, entry: u32, state: &EntryState) -> Result<(), AllocError>
     ensures text { OnOk
@@ -294,8 +296,8 @@ fn put_size(out: &mut String, shown: &Shown, count: usize) -> Result<(), AllocEr
 }
 
 /// Appends the first line of a dump: the line's number, and the table's number, order and place,
-/// and how many entries it has. Where memory ends, the text that was there stands, with perhaps a
-/// part of the line behind it.
+/// and how many valid entries it has. Where memory ends, the text that was there stays, with
+/// perhaps a part of the line after it.
 pub fn put_table(out: &mut String, line: u32, shown: &Shown) -> Result<(), AllocError>
     ensures text { OnOk
         result
@@ -315,7 +317,7 @@ pub fn put_table(out: &mut String, line: u32, shown: &Shown) -> Result<(), Alloc
 }
 
 /// The lines of entries, each in room of its own.
-fn put_entries(out: &mut String, entries: &[(u32, EntryState)]) -> Result<(), AllocError>
+fn put_entry_lines(out: &mut String, entries: &[(u32, EntryState)]) -> Result<(), AllocError>
     ensures text { OnOk
         result
         (string_bytes out.new ≡ string_bytes out.old ++ flat_map entry_text entries.now) }
@@ -338,11 +340,11 @@ fn put_dump(out: &mut String, line: u32, shown: &Shown) -> Result<(), AllocError
     ensures capacity { string_capacity out.old ≤ string_capacity out.new }
 {
     put_table(out, line, shown)?;
-    put_entries(out, shown.states.as_slice())
+    put_entry_lines(out, shown.states.as_slice())
 }
 
-/// Appends the text of the reply to a line. Where memory ends, the text that was there stands, with
-/// perhaps a part of the reply behind it.
+/// Appends the text of the reply to a line. Where memory ends, the text that was there stays, with
+/// perhaps a part of the reply after it.
 pub fn put_reply(out: &mut String, line: &TraceLine, reply: &Reply) -> Result<(), AllocError>
     ensures text { OnOk
         result

@@ -79,7 +79,7 @@ unfolding made entry
 clear_ref_keeps = refl
 
 -- ---- the reply that clears
--- C stands in the second word of H_REMOVE, where the first has a bit of the same weight.
+-- C is in the second word of H_REMOVE, where the first has a bit of the same weight.
 remove_shows_c : shows_changed calls.Remove (0x801091 ∷ 0x3092 ∷ []) 0 ≡ true
 remove_shows_c = refl
 
@@ -96,7 +96,7 @@ no_other_call : shows_changed calls.Protect (0x3092 ∷ []) 0 ≡ false
 no_other_call = refl
 
 -- ---- shown
--- Behind the receipt that clears it nothing is asked.
+-- After the receipt that clears it nothing is asked.
 until_cleared : ShowsChange (made true Read ∷ made true ClearMod ∷ []) (entry false) ⊥
 unfolding made entry
 until_cleared = (refl, (refl, tt))

@@ -1,4 +1,4 @@
--- H_PUT_TCE is H_BUSY exactly where a receipt says Taken, and never in the serial run.
+-- H_PUT_TCE is H_BUSY exactly if a receipt says Taken, and never in the serial run.
 use Rattle.std.specs.Prelude.{◌≢◌}
 use Rattle.std.proofs.Common.{◌≡◌, ℕ, ◌↔◌, List, [], ◌∷◌, true, ap, sym, ◌∙◌, Option, Some, None}
 use Rattle.std.specs.List.{AllByRecursion}

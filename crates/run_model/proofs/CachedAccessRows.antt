@@ -1,4 +1,4 @@
--- Worked accesses by a cached line of entry 1 with stamp 2, and past it.
+-- Worked accesses by a cached translation of entry 1 with stamp 2, and past it.
 use Rattle.std.proofs.Common.{◌≡◌, ℕ, ◌<◌, List, [], ◌∷◌, true, false, Some, None, ap, ◌∙◌, refl, arith}
 use Rattle.power_addr.specs.Pages.{virtual_page}
 use Rattle.entry_model.specs.State.{State, empty_state}

@@ -1,5 +1,5 @@
--- Each cached line holds of its entry's state, and each line that is run with nobody else at the
--- table keeps this.
+-- Each cached translation holds of its entry's state, and each line that is run with nobody else at
+-- the table keeps this.
 use Rattle.std.specs.Prelude.{IfSome}
 use Rattle.std.proofs.Common.{◌≡◌, ℕ, ◌<◌, ◌≤◌, ◌-◌, ◌^◌, List, [], ◌∷◌, true, false, sym, ◌∙◌, refl, subst, ◌⊎◌, inl, inr, not, length, Option, Some, None}
 use Rattle.std.specs.List.{AllByRecursion}
@@ -55,7 +55,8 @@ pub record IsFresh (states : List State) (line : Line) : Type 0 where
 abbrev pub ProcessorFresh : List State → Processor → Type 0
 ProcessorFresh states processor = AllCached (IsFresh states) processor.cache
 
--- The table has as many entries as its order says, and each processor's cached lines are fresh.
+-- The table has as many entries as its order says, and each processor's cached translations are
+-- fresh.
 pub record IsSound (order : ℕ) (processors : List Processor) (states : List State) : Type 0 where
   pub size : length states ≡ 2 ^ (order - 4)
   pub low : least_order ≤ order

@@ -61,7 +61,7 @@ hit_by_line context seg a line r (x ∷ y ∷ ys) e h =
     absurd (no_more (is_no_match x.answer) y ys trial.1)
 
 -- ---- walks past a line
--- A front beyond the line's pair puts the entry's receipts behind the line.
+-- A front beyond the line's pair puts the entry's receipts after the line.
 differ :
     (r : Receipt) (line : Line) → eqb r.entry line.entry ≡ true → eqb r.entry line.entry ≡ false → ⊥
 differ r line a b = cc

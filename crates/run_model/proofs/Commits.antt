@@ -1,4 +1,4 @@
--- What a commit leaves of the table, and the processors behind it of their cached lines.
+-- What a commit leaves of the table, and the processors after it of their cached translations.
 use Rattle.std.proofs.Common.{◌≡◌, ◌⊎◌, inl, inr, ℕ, List, map, if◌then◌else◌, refl, sym, subst, Option, Some, None}
 use Rattle.std.proofs.lemmas.Bool.{cond_both}
 use Rattle.papr_codes.specs.declared.codes.Rc.{Rc}
@@ -48,7 +48,7 @@ commit_moves flags shift pending pool table =
 abbrev pub cleared : Rc → List Processor → List Processor
 cleared rc processors = if is_success rc then map without_cache processors else processors
 
--- Their cached lines hold of the table that it leaves.
+-- Their cached translations hold of the table that it leaves.
 pub moved_hold :
     (rc : Rc) (old new : Table) (processors : List Processor)
     → (rc ≡ Success) ⊎ (new ≡ old)

@@ -242,7 +242,7 @@ one_kept grants w l h = at (cases_Bool (is_quiet l.act)) where
   at (inr q) = rw q (plain_kept grants w l h)
 
 -- ---- the beginning
--- What opens is what H_ENTER makes of an empty entry, but for the stamp.
+-- What opens is what H_ENTER makes of an empty entry, except for the stamp.
 entered_kept :
     (order : ℕ) (grants : List Grant) (e : ImageEntry)
     → IsOpeningEntry order grants e

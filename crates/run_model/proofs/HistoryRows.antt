@@ -130,8 +130,8 @@ forgets_r : InOrder 5 4 (made (by (at_stamp 2) reached) ∷ made (by (at_stamp 2
 unfolding at_stamp reached by pair_of has_base permission rows row_says key_rows
 forgets_r h = let no : 9 ≤ 8 = h.1.0 in omega arith
 
--- A cached line at stamp 1 that was gone raises the front to stamp 2: what the entry was at stamp 1
--- can't be seen any more, whatever its bits.
+-- A cached translation at stamp 1 that was gone raises the front to stamp 2: what the entry was at
+-- stamp 1 can't be seen any more, whatever its bits.
 goes_on_past_the_line : InOrder 5 4 (gone line ∷ made (by (at_stamp 2) ops.Read) ∷ [])
 unfolding at_stamp line by pair_of
 goes_on_past_the_line = (omega arith, tt)

@@ -42,7 +42,7 @@ abbrev pub AreLowStamp : GrantedMemory → ℕ → List State → Type 0
 AreLowStamp granted n states = AllByRecursion (IsLowStamp granted.grants n) states
 
 -- The memory that is granted stays, and so does the number of processors; the stamps are low, and
--- cached lines stand in their groups.
+-- the entries of cached translations are in their pages' groups.
 pub record IsLowStampRun (granted : GrantedMemory) (n cpus : ℕ) (w : Store) : Type 0 where
   pub grants : w.grants ≡ granted.grants
   pub processors : length w.processors ≡ cpus

@@ -47,7 +47,7 @@ lower : (p q : ℕ) (rs : List Receipt) → p ≤ q → Rising q rs → Rising p
 lower p q [] h k = tt
 lower p q (r ∷ rs) h k = (omega (arith, k.0), k.1)
 
--- two in a row stand in the order of their places
+-- two in a row are in the order of their places
 in_place : (x y : Receipt) → pair_of (after_of x) ≤ pair_of y.before → place x ≤ place y
 in_place x y h = at (rises x) where
   at : (after_of x ≡ x.before) ⊎ (pair_of x.before < pair_of (after_of x)) → place x ≤ place y

@@ -224,7 +224,7 @@ rest_off :
 rest_off on s t ts [] off h = rw off at h
 rest_off on s t ts (q ∷ qs) off h = rw off at h
 
--- The lines behind a quiet line, which is on the store or not.
+-- The lines after a quiet line, which is on the store or not.
 behind_on :
     (on : Act → Bool) (s : Store) (t : RepliedLine) (x : List RepliedLine × List QuietPart)
     → on t.line.act ≡ true
@@ -248,7 +248,7 @@ behind_off on s t x off h =
     let k = rw off at h in
     subst (λ b. Stands on (record s { memory = with_states s.memory b }) x.0 x.1) k.1 k.3
 
--- The lines, cut at the quiet ones, stand on the store with their replies, section by section.
+-- The lines, cut at the quiet ones, fit the store with their replies, section by section.
 abbrev pub Cut : (Act → Bool) → Store → List RepliedLine → Type 0
 Cut on s ts = Stands on s (cut ts).0 (cut ts).1
 

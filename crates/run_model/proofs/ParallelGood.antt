@@ -60,7 +60,7 @@ set_other f r e other =
     (λ same. eqb-false r.entry e other (sym same))
 
 -- ---- one line
--- with no cached line gone
+-- with no cached translation gone
 keeps_order :
     (e p : ℕ) (f g : List ℕ) (rs : List Receipt) (evs : List Event)
     → InTable f rs

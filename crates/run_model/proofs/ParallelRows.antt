@@ -1,4 +1,4 @@
--- What a processor on its own may answer: two processors at one entry, whose calls stand in the
+-- What a processor on its own may answer: two processors at one entry, whose calls come in the
 -- entry's history in another order than in the file.
 use Rattle.std.proofs.Common.{◌≡◌, ℕ, List, [], ◌∷◌, true, false, refl, ◌≤◌, arith}
 use Rattle.papr_codes.specs.Hcalls.{hcall_of, row_of}
@@ -77,7 +77,7 @@ reads_what_line_6_entered = record {
   gone = tt;
 }
 
--- Behind it no read of this processor may find the entry as it was before.
+-- After it no read of this processor may find the entry as it was before.
 no_earlier_read :
     (later : List ℕ)
     → WorksLine (context_of (small 2)) (fronts_after fronts (read present)) new_processor

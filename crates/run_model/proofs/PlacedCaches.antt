@@ -1,5 +1,5 @@
--- Each cached line's entry stands in its page's group, and each access lands where its entry maps
--- the page.
+-- Each cached translation's entry is in its page's group, and each access lands where its entry
+-- maps the page.
 use Rattle.std.specs.Prelude.{IfSome, IsTrue, find, if◌then◌else◌}
 use Rattle.std.proofs.Common.{◌≡◌, ℕ, zero, suc, List, [], ◌∷◌, Bool, true, false, not, ap, sym, ◌∙◌, refl, subst, ◌⊎◌, inl, inr, arith, map, replicate, Option, Some, None}
 use Rattle.std.specs.List.{AllByRecursion}
@@ -258,7 +258,7 @@ way_placed granted order ea seg (Some Hit) r cache lands h = h
 way_placed granted order ea seg None r cache lands h = h
 
 -- ---- a line
--- It lands, and the processor's lines stand in their groups then.
+-- It lands, and the entries of the processor's lines are in their groups then.
 abbrev LandsAndPlaces : GrantedMemory → ℕ → Processor → Act → Reply → Type 0
 LandsAndPlaces granted order p act reply =
     LandsByItsEntry granted order p act reply × ProcessorPlaced order (processor_after p act reply)

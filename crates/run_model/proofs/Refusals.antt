@@ -1,5 +1,5 @@
--- The receipts of a hypervisor call that is refused leave their entries, but for pairs that a bulk
--- removal has removed.
+-- The receipts of a hypervisor call that is refused leave their entries, except for pairs that a
+-- bulk removal has removed.
 use Rattle.std.specs.Prelude.{nat_lt, ◌==◌, ◌||◌, ◌+◌, if◌then◌else◌, map, flat_map, MatchBool}
 use Rattle.std.specs.Option.{option_map_or}
 use Rattle.std.proofs.Common.{◌≡◌, ℕ, List, [], ◌∷◌, Bool, true, false, ap, sym, ◌∙◌, refl, subst, ◌⊎◌, inl, inr, Option, Some, None}
@@ -294,8 +294,8 @@ replaced_leave entry op (r ∷ x ∷ []) trial refused =
 replaced_leave entry op (r ∷ x ∷ y ∷ rs) trial refused =
     absurd (no_third (not_worn r.answer) entry op x y rs trial.1)
 
--- A refused reply of this plan leaves the entries of its receipts, but for removals that its code
--- keeps.
+-- A refused reply of this plan leaves the entries of its receipts, except for removals that its
+-- code keeps.
 abbrev PutLeaves : Plan → Type 0
 PutLeaves plan =
     (reply : HReply)

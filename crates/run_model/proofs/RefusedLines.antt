@@ -1,5 +1,5 @@
 -- In a good run a line that is refused leaves the entries of its receipts, its processor's
--- segments, and its cache but for a line that was gone.
+-- segments, and its cache except for a line that was gone.
 use Rattle.std.specs.Prelude.{is_none}
 use Rattle.std.proofs.Common.{◌≡◌, ℕ, List, [], ◌∷◌, Bool, true, false, ap, sym, ◌∙◌, refl, subst, ◌⊎◌, inl, inr, Option, Some, None}
 use Rattle.std.specs.List.{AllByRecursion}

@@ -1,5 +1,5 @@
--- In a good run a resize call that is refused leaves all that the run carries, but for the pending
--- table in two cases.
+-- In a good run a resize call that is refused leaves all that the run carries, except for the
+-- pending table in two cases.
 use Rattle.std.specs.Prelude.{◌==◌, nat_lt, not, slice_index, IfSome}
 use Rattle.std.proofs.Common.{◌≡◌, ℕ, List, [], ◌∷◌, Bool, true, false, ap, sym, ◌∙◌, refl, subst, Option, Some, None}
 use Rattle.std.specs.List.{AllByRecursion}

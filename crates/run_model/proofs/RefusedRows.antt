@@ -212,7 +212,7 @@ unfolding bulk_remove reply_to with_entry entry run_on line_result hcall_plan is
     row_of plan_run trial_run h_bulk_remove_plan bulk_calls bulk_told asked_by new_processor
 removals_are_kept = refl
 
--- The pair behind the removed one leaves its entry, and the removed entry is empty.
+-- The pair after the removed one leaves its entry, and the removed entry is empty.
 pairs_leave : AllByRecursion (LeavesEntry true) (removed ∷ not_found ∷ [])
 unfolding removed not_found entry
 pairs_leave = ((λ stands. absurd (let clash : true ≡ false = stands in cc)), ((λ _. refl), tt))

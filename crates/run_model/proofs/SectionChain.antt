@@ -104,7 +104,7 @@ chained t rs is good =
     sections_chained (is_on t.config.windows (page_table t.config).window) (page_table t.config) c.0
     c.1 (page_table_sound t is).memory good.stores.0
 
--- ---- the number tells whether the table is another
+-- ---- the number shows whether the table is another
 pub same_number :
     (s next : Section)
     → next.before.memory.table ≡ (closing s).memory.table

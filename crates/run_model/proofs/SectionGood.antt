@@ -282,7 +282,7 @@ RunsAlone s b =
 abbrev pub OnCpus : Section → Type 0
 OnCpus s = Cpus (length s.before.processors) s.replied_lines
 
--- The store behind it.
+-- The store after it.
 abbrev pub behind : Section → List State → Store
 behind s b =
     record s.before {
@@ -375,7 +375,7 @@ section_good s b within h q =
     }
 
 -- ---- all sections
--- Each section's lines run alone, from the store behind the one before it, and each quiet line has
+-- Each section's lines run alone, from the store after the one before it, and each quiet line has
 -- its reply.
 abbrev pub Stands : (Act → Bool) → Store → List RepliedLine → List QuietPart → Type 0
 Stands on s ts [] = (b : List State) × RunsAlone (section_of on s ts None) b

@@ -94,7 +94,7 @@ dump =
     (replies.Dump
     (record { number = 0; order = 18; place = 0x1000000000; states = (0, with_r) ∷ [] }))
 
--- Processor 0 enters and, behind processor 1's protection, finds the entry by a walk; behind the
+-- Processor 0 enters and, after processor 1's protection, finds the entry by a walk; after the
 -- dump processor 1 does.
 replied_lines : List RepliedLine
 replied_lines =
@@ -129,8 +129,8 @@ unfolding replied_lines replied_line hcall walk resize dump is_quiet hcall_of ro
     permission rows row_says key_rows run_quiet_line shown_of
 dump_is_replied = refl
 
--- The one behind the dump opens on the states that the one before it closes on, and so on; the one
--- behind the commit on a table of the next number.
+-- The one after the dump opens on the states that the one before it closes on, and so on; the one
+-- after the commit on a table of the next number.
 opening_states :
     map (λ (s : Section). state_at s.before.memory.table.states 0) (take 3 opened)
     ≡ empty_state 0 ∷ with_r ∷ with_r ∷ []
@@ -172,7 +172,7 @@ filled =
           ∷ []);
     }
 
--- Behind it the segment alone.
+-- After it the segment alone.
 bare : Processor
 bare = record filled { cache = empty_cache }
 
@@ -192,9 +192,9 @@ unfolding filled bare opened replied_lines replied_line hcall walk resize dump i
     cached_line same_page after_walk
 opening_processors = refl
 
--- ---- what a processor's lines tell of an entry
--- A walk past the cached line says that it was gone, before its receipt; the first walk is past
--- none.
+-- ---- what a processor's lines say of an entry
+-- A walk past the cached translation says that it was gone, before its receipt; the first walk is
+-- past none.
 told :
     events_by bare (walk 5 0 (reached (at_stamp 2)) ∷ walk 6 0 (reached (at_stamp 3)) ∷ [])
     ≡ made (reached (at_stamp 2))

@@ -1,5 +1,5 @@
 -- Lines that run with nobody else at the table are also lines of processors that work on their own:
--- each has come, on every entry, to the state behind its own last line.
+-- each has come, on every entry, to the state after its own last line.
 use Rattle.std.specs.Prelude.{IfSome, Bool, if◌then◌else◌}
 use Rattle.std.proofs.Common.{◌≡◌, ℕ, zero, suc, ◌<◌, ◌≤◌, ◌+◌, ◌*◌, List, [], ◌∷◌, ap, sym, ◌∙◌, subst, ◌⊎◌, inl, inr, map, length, true, false, refl, arith, Option, Some, None, eqb}
 use Rattle.std.specs.List.{AllByRecursion}

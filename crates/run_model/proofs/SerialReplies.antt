@@ -196,7 +196,7 @@ module _ (set : AccessContext) (a : Request) (states : List State) (seg : Segmen
       (walk_within set.order seg.page (mode_for seg a) low)) in
       (record { trial = m.0; outcome = refl }, m.1)
 
--- By the segment and the cached line that there are.
+-- By the segment and the cached translation that there are.
 segment_meets :
     (set : AccessContext) (processor : Processor) (a : Request) (states : List State)
     (s : Option Segment)

@@ -1,4 +1,4 @@
--- A run is good store by store exactly where it is good section by section.
+-- A run is good store by store exactly if it is good section by section.
 use Rattle.std.specs.Prelude.{Some, None, ◌↔◌}
 use Rattle.std.proofs.Common.{◌≡◌, List, [], ◌∷◌, ap, sym, ◌∙◌, subst}
 use Rattle.std.specs.List.{AllByRecursion}
@@ -22,7 +22,7 @@ left_window x = after_window (closing x) x.quiet ∙ closed_window x.before x.re
 abbrev GoodFrom : List BusWindow → List RepliedLine → List QuietPart → Store → Type 0
 GoodFrom ws ts qs s = AllByRecursion IsGoodSection (sections_from (is_on ws s.window) s ts qs)
 
--- Those behind the first, by the name of the store then.
+-- Those after the first, by the name of the store then.
 later_is :
     (ws : List BusWindow) (ts : List RepliedLine) (q : QuietPart) (qs : List QuietPart) (s : Store)
     → GoodFrom ws q.1 qs (left_by (part_on ws ts (Some q.0) s))

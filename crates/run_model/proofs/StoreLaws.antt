@@ -1,4 +1,4 @@
--- The places of a legal history rise behind each change.
+-- The places of a legal history rise after each change.
 use Rattle.std.proofs.Common.{◌≡◌, ◌<◌, ◌≤◌, List, [], ◌∷◌, ◌++◌, ap, sym, ◌∙◌, subst, ◌⊎◌, inl, inr, arith}
 use Rattle.std.proofs.lemmas.Bool.{false≢true}
 use Rattle.entry_model.specs.State.{State}

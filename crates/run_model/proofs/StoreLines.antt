@@ -48,7 +48,7 @@ on_window_bus w act = at (bus_of act) refl where
   at None e h = cc
   at (Some n) e h = e ∙ ap (λ (k : ℕ). Some k) (sym (eqb-true w.liobn n h))
 
--- Another window has the line exactly where it has the number.
+-- Another window has the line exactly if it has the number.
 pub other_window :
     (w v : BusWindow) (act : Act)
     → is_on_window w act ≡ true
@@ -188,7 +188,7 @@ all_but_first [] = []
 all_but_first (t ∷ ts) = ts
 
 -- Two lists of which the filter depends on the lines alone agree in the first reply, if the line is
--- kept, and behind it.
+-- kept, and after it.
 module _ (f : Act → Bool) (l : TraceLine) (r q : Reply) (ts us : List RepliedLine) where
   abbrev Keeps : RepliedLine → Bool
   Keeps t = f t.line.act

@@ -89,7 +89,7 @@ shows_step r rs b after c rest = at (cases_Bool (clears r)) where
   at (inl e) = (c, rw e tt)
   at (inr e) = (c, rw e (rest e))
 
--- From an entry whose C is set on, C shows, where it does so behind the history.
+-- From an entry whose C is set on, C shows, where it does so after the history.
 pub shows :
     (a b : State) (rs : List Receipt) (after : Type 0)
     → (IsDirty b → after)

@@ -105,7 +105,7 @@ all_stay w cpu (p ∷ ps) ts h =
     let rest : processors_after_lines (suc cpu) ps ts ≡ ps = all_stay w (suc cpu) ps ts h in
     λ i. first i ∷ rest i
 
--- The window behind a section that closes on these states.
+-- The window after a section that closes on these states.
 pub window_closes_on :
     (grants : List Grant) (n : ℕ) (w : BusWindow) (a b : List State) (ts : List RepliedLine)
     → section_end_on (window_store grants n a w) (lines_on (is_on_window w) ts) b

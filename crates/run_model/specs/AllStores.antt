@@ -1,5 +1,5 @@
--- The stores of a run as a machine carries them: of a window which it is, and what its entries
--- hold.
+-- The stores of a run as a machine carries them: the page table, and each window with its entries'
+-- states.
 use Rattle.std.specs.Prelude.{List, ◌∷◌, map, length, None}
 use Rattle.bus_window.specs.Windows.{BusWindow}
 use Rattle.entry_model.specs.State.{State}

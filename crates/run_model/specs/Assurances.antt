@@ -1,4 +1,5 @@
--- What a run assures its guest.
+-- What a run assures its guest: stores show, bolted pages stay, and accesses land in granted
+-- memory.
 use Rattle.std.specs.Prelude.{List}
 use Rattle.std.specs.List.{AllByRecursion}
 use Rattle.trace_read.specs.Trace.{AcceptedTrace}

@@ -12,12 +12,12 @@ use Rattle.papr_codes.specs.declared.calls.Hcall.TheVariants as calls
 use Rattle.trace_line.specs.declared.act.Act.TheVariants as acts
 use Rattle.trace_reply.specs.declared.reply.Reply.TheVariants as replies
 
--- The call is no H_PUT_TCE, or its reply is H_BUSY exactly where a receipt says Taken.
+-- The call is no H_PUT_TCE, or its reply is H_BUSY exactly if a receipt says Taken.
 abbrev pub IsBusyWhereTaken : Hcall → HReply → Type 0
 IsBusyWhereTaken calls.PutTce h = (h.rc ≡ Busy) ↔ HasTaken h.receipts
 IsBusyWhereTaken other h = Unit {0}
 
--- The line is no H_PUT_TCE, or its reply is H_BUSY exactly where a receipt says Taken.
+-- The line is no H_PUT_TCE, or its reply is H_BUSY exactly if a receipt says Taken.
 abbrev pub BusyWhereTaken : Act → Reply → Type 0
 BusyWhereTaken (acts.Call number args spelt) (replies.Hcall h) =
     IsBusyWhereTaken (hcall_of number) h

@@ -1,5 +1,5 @@
--- How accesses use what their processors have cached: a hit by a line that is current, and a walk
--- past a line only where it is gone.
+-- How accesses use cached translations: a hit is by a current one, and a walk passes only stale
+-- ones.
 use Rattle.std.specs.Prelude.{◌≡◌, ◌<◌, List, [], ◌∷◌, Option, Some, None}
 use Rattle.entry_model.specs.State.{State}
 use Rattle.entry_model.specs.declared.line.Line.{Line}

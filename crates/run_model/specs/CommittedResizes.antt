@@ -26,7 +26,7 @@ abbrev pub commits_by : Act → Reply → Bool
 commits_by (acts.Call number args spelt) reply = commits_call (hcall_of number) reply
 commits_by act reply = false
 
--- The quiet line behind a section is a commit that succeeded.
+-- The quiet line after a section is a commit that succeeded.
 abbrev pub is_committed : Option RepliedLine → Bool
 is_committed None = false
 is_committed (Some q) = commits_by q.line.act q.reply
@@ -36,7 +36,7 @@ is_committed (Some q) = commits_by q.line.act q.reply
 abbrev pub closing_table : Section → Table
 closing_table s = (closing s).memory.table
 
--- What a quiet line leaves of the table: another one exactly where it is a commit that succeeded,
+-- What a quiet line leaves of the table: another one exactly if it is a commit that succeeded,
 -- which then has the translations; and else the same.
 pub record LeavesTable (s next : Section) : Type 0 where
   pub told : has_table_of s next ≡ not (is_committed s.quiet)

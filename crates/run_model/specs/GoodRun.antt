@@ -1,5 +1,5 @@
--- The good run: replies that place each call on an entry once in that entry's legal history, and
--- never before what its processor had seen.
+-- The good run: its replies place each call on an entry once in that entry's legal history. None
+-- comes before what its processor had seen.
 use Rattle.std.specs.Prelude.{◌≡◌, ℕ, ◌<◌, List, [], ◌∷◌, IfSome}
 use Rattle.std.specs.List.{AllByRecursion}
 use Rattle.entry_model.specs.State.{State}
@@ -35,8 +35,8 @@ EachLine P s =
     (processor_at s.before.processors cpu)
     (lines_of_processor cpu s.replied_lines)
 
--- The reply of an access; a walk in place of a cached line comes only where the line's entry left
--- its stamp.
+-- The reply of an access; a walk instead of a cached translation comes only where the line's entry
+-- left its stamp.
 pub record IsAccessLine
     (context : AccessContext)
     (states : List State)
@@ -75,7 +75,7 @@ abbrev pub AccessesAreReplied : Section → Type 0
 AccessesAreReplied s =
     EachLine (IsAccessLine (access_of (context_of s.before)) (states_of (closing s))) s
 
--- The quiet line behind the section has the reply that the closing states give.
+-- The quiet line after the section has the reply that the closing states give.
 abbrev pub QuietIsReplied : Section → Type 0
 QuietIsReplied s = IfSome s.quiet (λ q. q.reply ≡ (run_quiet_line (closing s) q.line.act).0)
 

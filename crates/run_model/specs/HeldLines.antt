@@ -1,4 +1,4 @@
--- The lines that processors have cached, and the entries that they are of.
+-- When the translations that processors have cached hold of their entries' states.
 use Rattle.std.specs.Prelude.{List}
 use Rattle.std.specs.List.{AllByRecursion}
 use Rattle.entry_model.specs.State.{State}
@@ -8,7 +8,7 @@ use Rattle.entry_model.specs.Run.{state_at}
 use Rattle.tlb_model.specs.Cache.{AllCached}
 use Rattle.tlb_model.specs.Processor.{Processor}
 
--- The cached line holds of its entry's state.
+-- The cached translation holds of its entry's state.
 abbrev pub Holding : List State → Line → Type 0
 Holding states line = Holds line (state_at states line.entry)
 

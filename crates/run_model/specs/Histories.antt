@@ -1,5 +1,5 @@
--- The histories of a section's receipts, the states that they close on, and what a processor learns
--- of an entry in its own order.
+-- The histories of a section's receipts, and the states that they close on. Also what a processor
+-- learns of an entry in its own order.
 use Rattle.std.specs.Prelude.{ℕ, zero, suc, ◌≤◌, ◌<◌, ◌==◌, ◌++◌, List, [], ◌∷◌, Option, Some, None, filter, length, map, max, MatchBool, if◌then◌else◌}
 use Rattle.std.specs.List.{AllByRecursion}
 use Rattle.entry_model.specs.State.{State}
@@ -49,7 +49,7 @@ unfoldable pub closing_states : List State → List Receipt → List State
 closing_states states rs = closing_from 0 states rs
 
 -- ---- fronts
--- What a processor learns of an entry: a receipt of its own, or that a cached line is gone.
+-- What a processor learns of an entry: a receipt of its own, or that a cached translation is gone.
 pub data Event : Type 0 where
   made : Receipt → Event
   gone : Line → Event
@@ -76,7 +76,7 @@ abbrev pub gone_events : Option Line → List Event
 gone_events None = []
 gone_events (Some line) = gone line ∷ []
 
--- The events of a line: the cached line that was gone, then its receipts.
+-- The events of a line: the cached translation that was gone, then its receipts.
 abbrev pub events_in : Processor → RepliedLine → List Event
 events_in p t =
     gone_events (gone_line_of p t.line.act t.reply)

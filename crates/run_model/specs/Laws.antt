@@ -50,7 +50,7 @@ ParallelIsGood =
 abbrev pub SerialIsParallel : Type 0
 SerialIsParallel = (t : AcceptedTrace) → IsAccepted t → IsParallel t (serial_replies t)
 
--- A run is good store by store exactly where it is good section by section.
+-- A run is good store by store exactly if it is good section by section.
 abbrev pub GoodSideBySide : Type 0
 GoodSideBySide = (t : AcceptedTrace) (rs : List Reply) → IsGoodRun t rs ↔ IsGoodSideBySide t rs
 
@@ -97,8 +97,8 @@ ClearingRepliesShow = OfGoodRuns (λ t rs. AllByRecursion ClearedBitsAreShown (s
 abbrev pub ResizesKeepBoltedPages : Type 0
 ResizesKeepBoltedPages = OfAcceptedRuns (λ t rs. ResizesKeepTranslations (sections_of t rs))
 
--- In a good run each access that is allowed, by a walk or by a cached line, lands where an entry
--- that was then one of its page maps it: in a grant, and in no table. None is ungranted.
+-- In a good run each access that is allowed, by a walk or by a cached translation, lands where an
+-- entry that was then one of its page maps it: in a grant, and in no table. None is ungranted.
 abbrev pub AccessesLandByTheirEntries : Type 0
 AccessesLandByTheirEntries =
     OfAcceptedRuns (λ t rs. AllByRecursion (AccessesLand t.config.granted) (sections_of t rs))
@@ -112,14 +112,14 @@ DevicesLandByTheirTces = OfAcceptedRuns (λ t. EachReplied (DeviceLands t.config
 abbrev pub NoEntryIsWorn : Type 0
 NoEntryIsWorn = OfAcceptedRuns (λ t rs. AllByRecursion IsUnworn rs)
 
--- In a good run a hit is by a cached line that is current at the hit's place, and a walk goes past
--- a cached line only where its entry has left the line's stamp.
+-- In a good run a hit is by a cached translation that is current at the hit's place, and a walk
+-- goes past a cached translation only where its entry has left the line's stamp.
 abbrev pub CachedLinesAreCurrentOrGone : Type 0
 CachedLinesAreCurrentOrGone =
     OfGoodRuns (λ t rs. AllByRecursion AccessesUseCaches (sections_of t rs))
 
 -- ---- H_PUT_TCE and H_BUSY
--- In a good run the reply of an H_PUT_TCE is H_BUSY exactly where a receipt of it says Taken.
+-- In a good run the reply of an H_PUT_TCE is H_BUSY exactly if a receipt of it says Taken.
 abbrev pub PutsAreBusyWhereTaken : Type 0
 PutsAreBusyWhereTaken = OfGoodRuns (EachReplied BusyWhereTaken)
 
@@ -129,7 +129,7 @@ SerialPutsAreNotBusy =
     (t : AcceptedTrace) → IsAccepted t → EachReplied PutIsNotBusy t (serial_replies t)
 
 -- ---- masks
--- In a good run an access is refused by a mask exactly where protection allows it by the entry that
+-- In a good run an access is refused by a mask exactly if protection allows it by the entry that
 -- it ended with, and a mask of its processor refuses it for the entry's key.
 abbrev pub MasksRefuseExactlyWhere : Type 0
 MasksRefuseExactlyWhere = OfGoodRuns (λ t rs. AllByRecursion MasksRefuse (sections_of t rs))
@@ -144,9 +144,9 @@ ZeroMasksRefuseNothing =
     → AllByRecursion NoneIsMasked (sections_of t rs)
 
 -- ---- what a refusal leaves
--- In a good run a refused line changes no entry, no segment and no other cached line than one that
--- was gone; but a bulk removal that ends with H_PARAMETER or H_HARDWARE keeps the pairs that it has
--- removed.
+-- In a good run a refused line changes no entry, no segment and no other cached translation than
+-- one that was gone; but a bulk removal that ends with H_PARAMETER or H_HARDWARE keeps the pairs
+-- that it has removed.
 abbrev pub RefusedLinesChangeNothing : Type 0
 RefusedLinesChangeNothing =
     OfAcceptedRuns (λ t rs. AllByRecursion RefusedLinesLeave (sections_of t rs))
@@ -179,7 +179,7 @@ EntriesCanBeEntered =
     (states_of (table_after t.config lines))
 
 -- What a layout holds of a table can be opened again: each valid entry of each table that a serial
--- run reaches, written by its index and its digits, behind `entry` lines of lower indices, in a
+-- run reaches, written by its index and its digits, after `entry` lines of lower indices, in a
 -- trace whose opening table has the order of that table, and whose grants are the same.
 abbrev pub ImagesOpenAgain : Type 0
 ImagesOpenAgain =

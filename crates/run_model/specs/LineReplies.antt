@@ -51,7 +51,7 @@ IsDeviceLine grants (Some w) write ioba (replies.Device d) = IsDeviceReply grant
 IsDeviceLine grants (Some w) write ioba other = ⊥
 
 -- The reply of a hypervisor call and of a device's access is the one of its receipts. An slbmte is
--- refused exactly where the buffer refuses its words; to clear the buffer or to set a mask never
+-- refused exactly if the buffer refuses its words; to clear the buffer or to set a mask never
 -- is.
 abbrev pub IsCallReply : StoreContext → Act → Reply → Type 0
 IsCallReply context (acts.Call number args spelt) (replies.Hcall h) =

@@ -19,7 +19,7 @@ use Rattle.trace_line.specs.declared.act.Act.TheVariants as acts
 use Rattle.trace_reply.specs.declared.reply.Reply.TheVariants as replies
 
 -- ---- one access
--- The line is no access of this processor, or a mask of the processor refused it exactly where the
+-- The line is no access of this processor, or a mask of the processor refused it exactly if the
 -- receipt that it ended with says so: protection allows the access by the entry as it was before,
 -- and the mask refuses it for the entry's key.
 abbrev pub IsMaskedByItsEntry : Processor → Act → Reply → Type 0

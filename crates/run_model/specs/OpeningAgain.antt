@@ -1,4 +1,4 @@
--- An entry that a run came to stands in the opening table of another trace.
+-- An entry that a run came to may be written into the opening table of another trace.
 use Rattle.std.specs.Prelude.{◌≡◌, ◌≢◌, ℕ, List, [], ◌∷◌, ◌++◌, codes, Ok}
 use Rattle.number_text.specs.Numbers.{hex}
 use Rattle.table_image.specs.declared.entry.ImageEntry.{ImageEntry}
@@ -33,7 +33,7 @@ with_image_entry c e = record c { entries = c.entries ++ e ∷ [] }
 abbrev pub opening_states : Configuration → List State
 opening_states c = states_of (page_table c)
 
--- The line is accepted behind these configuration lines, and adds the entry. The table that opens
+-- The line is accepted after these configuration lines, and adds the entry. The table that opens
 -- then has the entry's state at stamp 0: its doublewords, R and C; every other entry opens as
 -- without the line.
 pub record IsOpenedAgain

@@ -1,5 +1,5 @@
--- A run in which each processor works on its own: what it promises of its own lines, and what a
--- store promises when it is closed behind a section.
+-- A run in which each processor works on its own, and what it promises of its own lines. Also what
+-- a store promises when it is closed after a section.
 use Rattle.std.specs.Prelude.{◌≡◌, ℕ, ◌<◌, Bool, List, [], ◌∷◌, length, IfSome, None}
 use Rattle.std.specs.List.{AllByRecursion}
 use Rattle.entry_model.specs.State.{State}
@@ -23,8 +23,8 @@ use Rattle.run_model.specs.StoreContexts.{StoreContext, access_of}
 use Rattle.run_model.specs.Stores.{Store, context_of, states_of, opening_stores, is_on}
 
 -- ---- a processor
--- One of its lines, from the fronts that it had to those that it has then. Of a cached line that
--- was gone, the entry's receipts come later, and the front says that it was gone.
+-- One of its lines, from the fronts that it had to those that it has then. Of a cached translation
+-- that was gone, the entry's receipts come later, and the front says that it was gone.
 pub record WorksLine
     (context : StoreContext)
     (fronts : List ℕ)

@@ -44,12 +44,13 @@ processors_after processors t =
     t.line.cpu
     (processor_after (processor_at processors t.line.cpu) t.line.act t.reply)
 
--- The processors behind these lines.
+-- The processors after these lines.
 abbrev pub processors_behind : List Processor → List RepliedLine → List Processor
 processors_behind processors [] = processors
 processors_behind processors (t ∷ ts) = processors_behind (processors_after processors t) ts
 
--- The cached line that was gone when a line was run: that of the page which an access then walked.
+-- The cached translation that was gone when a line was run: that of the page which an access then
+-- walked.
 abbrev pub gone_line_of : Processor → Act → Reply → Option Line
 gone_line_of p (acts.Access want ea user) (replies.Access r) =
     gone_line p.cache (segment_of p.slots ea) r

@@ -1,4 +1,5 @@
--- The quiet lines: the two resize calls, and dumps.
+-- The quiet lines, which are the two resize calls and dumps: their replies, and the store after
+-- each.
 use Rattle.std.specs.Prelude.{ℕ, List, [], map, slice_index, if◌then◌else◌, Bool, true, false}
 use Rattle.papr_codes.specs.declared.calls.Hcall.{Hcall}
 use Rattle.papr_codes.specs.declared.codes.Rc.{Rc}

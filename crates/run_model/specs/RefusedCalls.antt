@@ -159,7 +159,7 @@ pub record LeavesRun (act : Act) (reply : Reply) (old new : Store) : Type 0 wher
   pub left : new ≡ run_left act reply old
   pub another : DropsAnother act reply old
 
--- The section behind a refused quiet line opens on what that left of the one before it.
+-- The section after a refused quiet line opens on what that left of the one before it.
 abbrev pub OpensOnRest : Section → Section → Type 0
 OpensOnRest s next =
     IfSome
@@ -167,7 +167,7 @@ OpensOnRest s next =
     (λ q. is_refused q.line.act q.reply ≡ true
     → LeavesRun q.line.act q.reply (closing s) next.before)
 
--- Each section behind a refused quiet line opens on what that left of the one before it.
+-- Each section after a refused quiet line opens on what that left of the one before it.
 abbrev pub RefusedQuietLinesLeave : List Section → Type 0
 RefusedQuietLinesLeave [] = Unit {0}
 RefusedQuietLinesLeave (s ∷ []) = Unit {0}

@@ -43,7 +43,7 @@ abbrev pub made_in : Section → List Receipt
 made_in s = receipts_from_processor (length s.before.processors) 0 s.replied_lines
 
 -- ---- how it closes
--- The store behind these lines, where it closes on these states: each processor is as after its own
+-- The store after these lines, where it closes on these states: each processor is as after its own
 -- lines.
 abbrev pub section_end_on : Store → List RepliedLine → List State → Store
 section_end_on s ts states = record s {
@@ -56,15 +56,15 @@ abbrev pub states_behind : Store → List RepliedLine → List State
 states_behind s ts =
     closing_states (states_of s) (receipts_from_processor (length s.processors) 0 ts)
 
--- The store behind these lines, where it closes on those states.
+-- The store after these lines, where it closes on those states.
 unfoldable pub section_end : Store → List RepliedLine → Store
 section_end s ts = section_end_on s ts (states_behind s ts)
 
--- The store behind a section.
+-- The store after a section.
 abbrev pub closing : Section → Store
 closing s = section_end s.before s.replied_lines
 
--- The store behind a section that closes on these states.
+-- The store after a section that closes on these states.
 abbrev pub closing_on : Section → List State → Store
 closing_on s states = section_end_on s.before s.replied_lines states
 

@@ -44,7 +44,7 @@ use Rattle.papr_codes.specs.declared.codes.Rc.TheVariants as rc
 abbrev pub is_current : Line → State → Bool
 is_current line s = s.valid && (s.stamp == line.stamp)
 
--- The cached line, where it is current.
+-- The cached translation, where it is current.
 abbrev pub current_line : List State → Option Line → Option Line
 current_line states None = None
 current_line states (Some line) =
@@ -57,8 +57,8 @@ access_result context a by run =
     let outcome = outcome_of context.grants a.ea run.0 in
     (replies.Access (record { outcome = outcome; by = Some by; receipts = run.0 }), run.1)
 
--- The result of an access in a segment: by the cached line of its page where that is current, else
--- by a walk.
+-- The result of an access in a segment: by the cached translation of its page where that is
+-- current, else by a walk.
 abbrev pub result_by_line :
     AccessContext → List State → Segment → Request → Option Line → Reply × List State
 result_by_line context states seg a (Some line) =

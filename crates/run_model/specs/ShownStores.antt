@@ -86,7 +86,7 @@ ClearedBitsAreShown s = EachLine (λ p t. ShowsClearedBits t.line.act t.reply) s
 abbrev pub has_table_of : Section → Section → Bool
 has_table_of old new = new.before.memory.table.number == old.before.memory.table.number
 
--- Where an entry of the one section stands in the next: in the same table at its index, in a new
+-- Where an entry of the one section is in the next: in the same table at its index, in a new
 -- one where the resize carried it, if it did.
 abbrev pub carried_to : Section → Section → ℕ → Option ℕ
 carried_to old new entry =

@@ -10,7 +10,7 @@ use Rattle.run_model.specs.Quiet.{QuietPart, cut}
 use Rattle.run_model.specs.Sections.{Section, closing, after_quiet, quiet_on, section_of}
 use Rattle.run_model.specs.Stores.{Store, is_on, opening_stores}
 
--- What these lines, and the quiet line behind them if there is one, are on a store.
+-- What these lines, and the quiet line after them if there is one, are on a store.
 abbrev pub part_on : List BusWindow → List RepliedLine → Option RepliedLine → Store → Section
 part_on ws ts None s = section_of (is_on ws s.window) s ts None
 part_on ws ts (Some q) s =
@@ -20,7 +20,7 @@ part_on ws ts (Some q) s =
 abbrev pub left_by : Section → Store
 left_by x = after_quiet (closing x) x.quiet
 
--- All stores behind these lines and the quiet line.
+-- All stores after these lines and the quiet line.
 abbrev pub stores_behind : List BusWindow → List Store → List RepliedLine → RepliedLine → List Store
 stores_behind ws ss ts q = map (λ (s : Store). left_by (part_on ws ts (Some q) s)) ss
 

@@ -1,4 +1,4 @@
--- What the lines on one store of entries have in common: the page table is such a store, and each
+-- What the lines on one store of entries have in common. The page table is such a store, and each
 -- DMA window has one.
 use Rattle.std.specs.Prelude.{ℕ, List, Option, Some, None}
 use Rattle.bus_window.specs.Windows.{BusWindow}
@@ -13,7 +13,7 @@ pub record StoreContext : Type 0 where
   pub grants : List Grant
   pub window : Option BusWindow
 
--- What accesses of processors go by.
+-- What accesses of processors depend on.
 abbrev pub access_of : StoreContext → AccessContext
 access_of context = access_context context.order context.grants
 
@@ -30,7 +30,7 @@ abbrev pub window_context : List Grant → BusWindow → StoreContext
 window_context grants w = record { order = least_order; grants = grants; window = Some w }
 
 -- ---- without the size
--- What calls go by beside the store's size: the granted memory, and the window.
+-- What calls depend on apart from the store's size: the granted memory, and the window.
 pub record StoreSurroundings : Type 0 where
   pub grants : List Grant
   pub window : Option BusWindow

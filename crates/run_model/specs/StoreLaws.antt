@@ -14,7 +14,7 @@ use Rattle.run_model.specs.RefusedCalls.{is_refusal, keeps_removals, LeavesEntry
 
 -- ---- refused calls
 -- The reply of a hypervisor call with a code that refuses it leaves the entry of each of its
--- receipts, but for the removals that the call keeps with that code.
+-- receipts, except for the removals that the call keeps with that code.
 abbrev pub RefusedCallsLeaveEntries : Type 0
 RefusedCallsLeaveEntries =
     (context : StoreContext) (hcall : Hcall) (args : List ℕ) (reply : HReply)
@@ -27,7 +27,7 @@ RefusedCallsLeaveEntries =
 abbrev pub ChangesEntry : Receipt → Type 0
 ChangesEntry r = state_eq (after_of r) r.before ≡ false
 
--- In a legal history of an entry each receipt behind one that changed the entry has a higher place.
+-- In a legal history of an entry each receipt after one that changed the entry has a higher place.
 -- So no two that changed it have one place.
 abbrev pub ChangesHavePlacesOfTheirOwn : Type 0
 ChangesHavePlacesOfTheirOwn =

@@ -1,5 +1,5 @@
--- The stores of a run by their numbers: 0 is the page table's, and each window has one more than
--- its index among the windows.
+-- The stores of a run by their numbers, and the store that a line is on. 0 is the page table's
+-- number, and each window has one more than its index among the windows.
 use Rattle.std.specs.Prelude.{◌≡◌, ℕ, suc, ◌==◌, List, [], ◌∷◌, length, filter, slice_index_or, Option, Some, None, if◌then◌else◌}
 use Rattle.bus_window.specs.Windows.{BusWindow}
 use Rattle.trace_line.specs.declared.act.Act.{Act}

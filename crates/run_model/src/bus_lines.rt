@@ -1,3 +1,5 @@
+//! Lines that name a DMA window: TCE calls and accesses of devices, run on the window's own
+//! entries.
 ghost use Rattle.std.specs.Prelude.{◌≡◌, true, length, is_some};
 ghost use Rattle.tlb_model.specs.Processor.{Processor};
 ghost use Rattle.trace_line.specs.Lines.{bus_of};

@@ -18,7 +18,7 @@ pub fn serial_is_parallel()
     ensures { SerialIsParallel }
 {}
 
-/// A run is good store by store exactly where it is good section by section, with all stores side
+/// A run is good store by store exactly if it is good section by section, with all stores side
 /// by side.
 pub fn good_side_by_side()
     ensures { GoodSideBySide }
@@ -64,13 +64,13 @@ pub fn devices_land_by_their_tces()
     ensures { DevicesLandByTheirTces }
 {}
 
-/// In a good run a hit is by a cached line that is current at the hit's place, and a walk goes past
-/// a cached line only where its entry has left the line's stamp.
+/// In a good run a hit is by a cached translation that is current at the hit's place, and a walk
+/// goes past a cached translation only where its entry has left the line's stamp.
 pub fn cached_lines_are_current_or_gone()
     ensures { CachedLinesAreCurrentOrGone }
 {}
 
-/// In a good run an access is refused by a mask exactly where protection allows it by the entry
+/// In a good run an access is refused by a mask exactly if protection allows it by the entry
 /// that it ended with, and a mask of its processor refuses it for the entry's key.
 pub fn masks_refuse_exactly_where()
     ensures { MasksRefuseExactlyWhere }
@@ -86,7 +86,7 @@ pub fn no_entry_is_worn()
     ensures { NoEntryIsWorn }
 {}
 
-/// In a good run the reply of an H_PUT_TCE is H_BUSY exactly where a receipt of it says Taken.
+/// In a good run the reply of an H_PUT_TCE is H_BUSY exactly if a receipt of it says Taken.
 pub fn puts_are_busy_where_taken()
     ensures { PutsAreBusyWhereTaken }
 {}
@@ -97,8 +97,8 @@ pub fn serial_puts_are_not_busy()
 {}
 
 /// In a good run a call, an access or an slbmte that is refused changes no entry, no segment and no
-/// cached line but one that was gone; a bulk removal keeps the pairs that it removed before it was
-/// refused.
+/// cached translation but one that was gone; a bulk removal keeps the pairs that it removed before
+/// it was refused.
 pub fn refused_lines_change_nothing()
     ensures { RefusedLinesChangeNothing }
 {}
@@ -120,9 +120,9 @@ pub fn reached_entries_can_be_entered()
     ensures { EntriesCanBeEntered }
 {}
 
-/// Each valid entry that a serial run comes to, and that a layout can hold, may stand in the
-/// opening table of another trace with the same grants: an `entry` line with its index and its
-/// digits is accepted, and the entry opens with its doublewords, R and C, at stamp 0.
+/// Each valid entry that a serial run comes to, and that a layout can hold, may be in the opening
+/// table of another trace with the same grants: an `entry` line with its index and its digits is
+/// accepted, and the entry opens with its doublewords, R and C, at stamp 0.
 pub fn images_open_again()
     ensures { ImagesOpenAgain }
 {}

@@ -6,6 +6,13 @@
 //! of the Power ISA (Book III, hashed page table translation). `laws` has the theorems. What
 //! runs: `make_call`, which picks the hypervisor call of a line by its number,
 //! `make_device_access`, and `WindowEntries::line`, a line on a DMA window.
+//!
+//! Main contracts: `serial_is_good`, `parallel_is_good`, `one_good_run`, `good_side_by_side`,
+//! `no_store_is_lost`, `resizes_keep_bolted_pages`, `accesses_land_by_their_entries`,
+//! `refused_lines_change_nothing`, `refused_resizes_change_nothing`, `images_open_again`; over any
+//! store `refused_calls_leave_entries`, `changes_have_places_of_their_own`; `WindowEntries`: a DMA
+//! window and its entries, and a line on it; `store_of`, `window_of`: which store and which window
+//! a line is on.
 #![tactic(auto)]
 
 mod bus_lines;

@@ -11,7 +11,7 @@ pub fn refused_calls_leave_entries()
 {}
 
 /// In a legal history of an entry no two receipts that changed it have one place: each receipt
-/// behind one that changed it has a higher place.
+/// after one that changed it has a higher place.
 pub fn changes_have_places_of_their_own()
     ensures { ChangesHavePlacesOfTheirOwn }
 {}

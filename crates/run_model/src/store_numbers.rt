@@ -1,3 +1,5 @@
+//! Which store of entries a line is on: that of the first DMA window whose number it names, else
+//! the page table.
 ghost use Rattle.std.specs.Prelude.{◌≡◌, ◌≤◌, length};
 ghost use Rattle.run_model.specs.AllStores.{windows_in};
 ghost use Rattle.run_model.specs.StoreNumbers as stores;
@@ -5,7 +7,7 @@ ghost use Rattle.run_model.specs.StoreNumbers as stores;
 use crate::windows::WindowEntries;
 use trace_line::Act;
 
-/// The index of the first of these windows that a line names. `None` exactly where it names none
+/// The index of the first of these windows that a line names. `None` exactly if it names none
 /// of them.
 pub fn window_of(windows: &[WindowEntries], act: &Act) -> Option<usize>
     ensures { result ≡ stores.index_from 0 windows.now act.now }

@@ -1,3 +1,5 @@
+//! DMA windows in a run: each has a store of 16384 TCEs, empty at first, on which the lines that
+//! name it are run.
 ghost use Rattle.std.specs.Prelude.{◌≡◌, map, true, IfOk};
 ghost use Rattle.trace_reply.specs.Slots.{reply_in};
 ghost use Rattle.tlb_model.specs.Processor.{new_processor};

@@ -11,8 +11,8 @@ use Rattle.shared_pass.specs.Held.{plan_of_held, IsHeldPlan, IsHeldWalk}
 use Rattle.shared_pass.specs.Made.{ToldBy}
 
 -- The pass x is y after a try. What it has to go on with is this very call. Its receipts are of the
--- call's first operations, and the next one is busy, which it tells: by the words that the last
--- step of this try found.
+-- call's first operations, and the next one is busy: it keeps the words that the last step of this
+-- try found.
 pub record KeepsCall (plan : Plan) (x : Sharer) (y : Working) (b : Busy) : Type 0 where
   pub call : HeldCall
   pub pending : y.pending ≡ Call call
@@ -22,8 +22,8 @@ pub record KeepsCall (plan : Plan) (x : Sharer) (y : Working) (b : Busy) : Type 
   pub told : y.busy ≡ b
 
 -- The pass x is y after a try. What it has to go on with is this very walk, on a table of 2 ^ order
--- bytes. Its receipts are of the walk's first operations, and the next one is busy, which it tells:
--- by the words that the last step of this try found.
+-- bytes. Its receipts are of the walk's first operations, and the next one is busy: it keeps the
+-- words that the last step of this try found.
 pub record KeepsWalk (order : ℕ) (walk : PageWalk) (x : Sharer) (y : Working) (b : Busy) : Type 0
   where
     pub pending : y.pending ≡ Walk walk

@@ -1,4 +1,4 @@
--- Calls and walks that are held up.
+-- Calls and walks that are held up: the plan of each, and the operations that it has made.
 use Rattle.std.specs.Prelude.{◌≡◌, ℕ, Bool, true, false, List}
 use Rattle.entry_model.specs.declared.operation.Answer.{Answer}
 use Rattle.entry_model.specs.declared.receipt.Receipt.{Receipt}
@@ -42,7 +42,7 @@ pub record IsHeldAt (goes : Answer → Bool) (cs : List Call) (rs : List Receipt
 abbrev pub IsHeldPlan : Plan → List Receipt → Busy → Type 0
 IsHeldPlan plan rs b = IsHeldAt plan.goes_on plan.calls rs b
 
--- A walk that is.
+-- A walk that is held up so.
 abbrev pub IsHeldWalk : ℕ → PageWalk → List Receipt → Busy → Type 0
 IsHeldWalk order w rs b = IsHeldAt is_no_match (calls_of_walk order w) rs b
 

@@ -1,4 +1,4 @@
--- What is pending is so in one way at most, so that a struct can state it.
+-- That a pass's receipts fit what is pending has one proof at most, so that a struct can state it.
 use base.Stored.{Coded-set}
 use Rattle.std.proofs.Props.{props}
 use Rattle.std.specs.Prelude.{◌≡◌, ℕ, Bool, List, [], ◌∷◌}
@@ -55,7 +55,7 @@ fits_prop : (order : ℕ) (call : HeldCall) → IsProp (HeldFits order call)
 fits_prop order (Tries trial) = trial_prop order trial
 fits_prop order (Removes named pairs) = Prim.hlevel props
 
--- That a pass holds a call back has one proof at most.
+-- What is pending, and its receipts, fit in one way at most.
 pub held_prop : (order : ℕ) (p : Pending) (rs : List Receipt) → IsProp (IsHeldBy order p rs)
 held_prop order pending.Nothing rs = Prim.hlevel props
 held_prop order (pending.Call call) rs = Prim.hlevel (props, fits_prop, begun_prop)

@@ -1,4 +1,4 @@
--- What a pass made between two moments.
+-- What a pass made between two moments: its receipts, and the last step that it took.
 use Rattle.std.specs.Prelude.{◌≡◌, ◌≤◌, ℕ, List}
 use Rattle.std.specs.Arc.{arc_value}
 use Rattle.std.specs.Global.{Global}

@@ -1,4 +1,4 @@
--- What a pointer owns: a boxed value, or nothing.
+-- What the pointer in a pass of C owns: the box of a pass at work, or nothing.
 use base.Fml.{Fml, ftrue}
 use base.Stored.{Coded}
 use denote.RawPtr.{Ptr}
@@ -14,6 +14,6 @@ abbrev pub pointer_owns : Global → Ptr → Option the_row.Denot → Fml
 pointer_owns alloc p None = ftrue
 pointer_owns alloc p (Some x) = box_owns (ghosts.dealloc_token alloc) the_row p x
 
--- How a pointer's value stands in memory.
+-- How a pointer's value is laid out in memory.
 abbrev pub held_coded : Coded (Option the_row.Denot)
 held_coded = (option.the_row the_row).coded

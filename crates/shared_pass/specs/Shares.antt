@@ -38,7 +38,7 @@ pub record IsSplit (a b c : Sharer) : Type 0 where
   pub same_fronts : (view_of c.pass).fronts ≡ (view_of a.pass).fronts
 
 -- The pass a is c after it took in b: it has the shares of both and their receipts, those of b
--- behind, and has seen what both have.
+-- last, and has seen what both have.
 pub record IsJoined (a b c : Sharer) : Type 0 where
   pub table : c.table ≡ a.table
   pub shares : c.pass.shares ≡ a.pass.shares + b.pass.shares

@@ -1,4 +1,4 @@
--- Walks that an access of C asks for.
+-- The walk that an access of C asks for, and its calls on the entries of a table.
 use Rattle.std.specs.Prelude.{ℕ, List, Option, Some, None}
 use Rattle.storage_prot.specs.declared.want.Want.{Want}
 use Rattle.power_addr.specs.Pages.{VirtualPage}

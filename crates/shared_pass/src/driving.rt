@@ -1,3 +1,5 @@
+//! Tries of hypervisor calls and walks by a pass at work: one that finds an entry busy becomes what
+//! the pass has to go on with.
 ghost use Rattle.std.specs.Prelude.{◌≡◌, ◌++◌, IfOk, IfErr, IsOk};
 ghost use Rattle.std.specs.Arc.{arc_value};
 ghost use Rattle.entry_model.specs.Receipt.{is_no_match, found_of};

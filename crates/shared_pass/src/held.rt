@@ -1,3 +1,4 @@
+//! Calls and walks that are held up, with enough of each to make its operations again.
 ghost use Rattle.std.specs.Prelude.{◌≡◌, ◌<◌, ℕ, length};
 ghost use Rattle.call_plan.specs.Plans.{plan_of, Fits};
 ghost use Rattle.shared_pass.specs.Held.{plan_of_held, HeldFits, is_nothing};

@@ -1,3 +1,5 @@
+//! A box taken apart into its pointer and its allocator, and put together again, so that C can hold
+//! the pointer.
 ghost use Rattle.std.specs.Prelude.{◌≡◌};
 ghost use Rattle.std.specs.Box.Ownership.{box_owns};
 

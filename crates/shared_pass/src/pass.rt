@@ -1,3 +1,5 @@
+//! The struct of a pass in the memory of C, into which a boxed pass at work is put and from which
+//! it is taken.
 ghost use Rattle.std.specs.Prelude.{◌≡◌, is_some};
 
 use crate::pointer::WorkingPointer;

@@ -1,3 +1,4 @@
+//! The pointer in a pass of C: it owns the box of a pass at work, or is null.
 ghost use Rattle.std.specs.Prelude.{◌≡◌, true, Option, Some, None, is_some};
 ghost use Rattle.shared_pass.specs.declared.working.Working.{Working};
 ghost use Rattle.shared_pass.specs.Owned.{held_coded, pointer_owns};
@@ -22,7 +23,7 @@ impl Model for WorkingPointer {
 }
 
 impl WorkingPointer {
-    /// The pointer to nothing: no call is held up.
+    /// The pointer to nothing: there is no pass at work.
     pub(crate) fn none(alloc: Global) -> WorkingPointer
         ensures { result.held ≡ None }
     {
@@ -53,7 +54,7 @@ impl WorkingPointer {
         }
     }
 
-    /// What is in the box.
+    /// The pointer that owns what is in the box.
     pub(crate) fn of(working: Box<Working>) -> WorkingPointer
         ensures { result.held ≡ Some working.value }
     {

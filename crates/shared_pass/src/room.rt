@@ -1,3 +1,5 @@
+//! Memory for one more pass, taken before a split, so that a split for which there is none changes
+//! nothing.
 ghost use Rattle.std.specs.Prelude.{◌≡◌};
 
 use crate::parts::Parts;

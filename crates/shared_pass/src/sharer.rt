@@ -1,3 +1,5 @@
+//! A pass of the running table with its share in the ownership of it: opening, splits, joins, and
+//! the states that the table closes to.
 ghost use Rattle.std.specs.Arc.{arc_value};
 ghost use Rattle.entry_lock.specs.PassOfTable.{IsOf};
 ghost use Rattle.entry_lock.specs.PassInvariants.{most_passes};

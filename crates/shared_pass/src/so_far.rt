@@ -1,3 +1,4 @@
+//! What a call that is held up gives with H_BUSY: the words of the receipts that it has.
 ghost use Rattle.hpte_fields.specs.TableSize.{IsTableOrder};
 ghost use Rattle.std.specs.Prelude.{◌≡◌};
 ghost use Rattle.entry_model.specs.Begun.{IsBegun};

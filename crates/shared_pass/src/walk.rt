@@ -1,3 +1,5 @@
+//! The walk that an access of C asks for: its page, its kind, and its operations on the page's two
+//! groups.
 ghost use Rattle.hpte_fields.specs.TableSize.{IsTableOrder};
 ghost use Rattle.std.specs.Prelude.{◌≡◌};
 ghost use Rattle.entry_model.specs.Calls.{AreCallsIn};

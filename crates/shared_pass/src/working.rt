@@ -1,3 +1,5 @@
+//! A pass with the call or the walk that it has to go on with, the receipts of that, and why it is
+//! held up.
 ghost use Rattle.shared_pass.specs.Held.{IsHeldBy};
 ghost use Rattle.shared_pass.specs.HeldFacts.{held_prop};
 ghost use Rattle.shared_pass.specs.Made.{order_of};

@@ -29,7 +29,7 @@ written_sound slots number slot sound fine =
           All-set (λ (s : Option Slot). IfSome s IsSlot) slots number slot fine sound.in_range;
     }
 
--- An element is found exactly where one passes.
+-- An element is found exactly if one passes.
 pub is_some_find : {X : Type 0} (p : X → Bool) (xs : List X) → is_some (find p xs) ≡ list_any p xs
 is_some_find p [] = refl
 is_some_find p (x ∷ xs) = at (is_some_find p xs) (cases_Bool (p x)) where

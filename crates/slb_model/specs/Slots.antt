@@ -11,7 +11,7 @@ use Rattle.slb_model.specs.declared.slot.Slot.{Slot}
 abbrev pub slot_number : ℕ → ℕ
 slot_number rb = rb % 2 ^ 12
 
--- V
+-- V is set.
 abbrev pub is_valid : ℕ → Bool
 is_valid rb = bit_and rb 0x08000000 == 0x08000000
 
@@ -28,11 +28,11 @@ segment_code rs = rs / 2 ^ 62
 abbrev pub is_one_tb : ℕ → Bool
 is_one_tb rs = segment_code rs == 1
 
--- The VSID stands below B, above the low 12 bits for 256 MB and above the low 24 bits for 1 TB.
+-- The VSID is below B, above the low 12 bits for 256 MB and above the low 24 bits for 1 TB.
 abbrev pub vsid_of : ℕ → ℕ
 vsid_of rs = rs % 2 ^ 62 / 2 ^ (if is_one_tb rs then 24 else 12)
 
--- Ks, Kp and N.
+-- Ks.
 abbrev pub is_ks : ℕ → Bool
 is_ks rs = bit_and rs 0x800 == 0x800
 

@@ -1,3 +1,6 @@
+//! The causes for which `slbmte` is refused: the slot's number, the segment's size or the base page
+//! size.
+
 /// Why the words of an `slbmte` are refused.
 #[derive(Clone, Copy, PartialEq, Eq, Debug)]
 pub enum BadSlb {

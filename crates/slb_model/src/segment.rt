@@ -1,3 +1,4 @@
+//! What the segment lookaside buffer gives for an effective address: the page, Ks, Kp and N.
 use power_addr::Page;
 
 /// The segment in which an effective address lies.

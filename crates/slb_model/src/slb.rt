@@ -1,3 +1,5 @@
+//! The 32 slots of a processor's segment lookaside buffer, written by `slbmte` and searched by
+//! effective address.
 ghost use Rattle.std.specs.Prelude.{◌≡◌, Some, None, find, is_some, IfSome, MatchResult, OnOk, OnErr};
 ghost use Rattle.std.specs.List.{list_any};
 ghost use Rattle.slb_model.specs.Slots.{IsSlot, covers};

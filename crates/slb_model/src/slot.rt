@@ -1,3 +1,5 @@
+//! One slot of the segment lookaside buffer, decoded from the words of `slbmte` and compared with
+//! effective addresses.
 ghost use Rattle.std.specs.Prelude.{◌≡◌, true, IsTrue, IsSome, IfOk, IfSome, MatchResult, OnOk, Some, None};
 ghost use Rattle.power_addr.specs.Pages.{is_base_shift};
 ghost use Rattle.slb_model.specs.Slots.{IsSlot, covers, segment_by, slot_of_words, base_shift_of};

@@ -1,3 +1,4 @@
+//! The check of an access against the page's protection bits, the segment's key and no-execute.
 ghost use Rattle.std.specs.Prelude.{◌≡◌, ◌<◌};
 ghost use Rattle.storage_prot.specs.Protection.{permission, may_read, may_write, allowed};
 

@@ -1,3 +1,4 @@
+//! The three kinds of access: load, store and instruction fetch.
 ghost use Rattle.std.specs.Prelude.{◌≡◌};
 
 /// What an access wants to do.

@@ -1,3 +1,5 @@
+//! Generated traces: the first lines of seed 1 as another program drew them, and a shorter trace as
+//! the beginning of a longer one.
 use papr_codes::Hcall;
 use std::test::Fail;
 use storage_prot::Want;

@@ -1,3 +1,5 @@
+//! Grants of memory to a guest: the machine address of a range, the refusals of a grant, and the
+//! most that a list holds.
 ghost use Rattle.std.specs.Prelude.{◌≡◌};
 
 use frame_grants::{Grant, GrantError, Grants, Kind};

@@ -1,3 +1,5 @@
+//! Table images: entries spelt as digits in both layouts and read back, and what a layout can't
+//! hold.
 use std::alloc::Global;
 use std::fmt::Write;
 use std::test::Fail;

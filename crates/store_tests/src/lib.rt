@@ -1,5 +1,5 @@
 //! Tests of the crates of what a hypervisor holds: [`frame_grants`], [`hpt_pool`], [`table_image`],
-//! [`papr_table`], [`partition`] and [`trace_gen`]. They stand here since the gate proves a crate
+//! [`papr_table`], [`partition`] and [`trace_gen`]. They are here since the gate proves a crate
 //! that has tests twice.
 #![tactic(auto)]
 

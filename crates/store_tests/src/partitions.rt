@@ -1,3 +1,5 @@
+//! Partitions before their first call: empty tables of several orders, each at the beginning of the
+//! pool.
 ghost use Rattle.std.specs.Prelude.{IfOk};
 ghost use Rattle.partition.specs.PartitionState.{HasStates};
 

@@ -1,3 +1,5 @@
+//! The pool of tables: which places its blocks have, how blocks that are given back join, and which
+//! pools are refused.
 mod beside_plain;
 mod plain;
 

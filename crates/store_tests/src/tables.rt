@@ -1,3 +1,5 @@
+//! The plain table as a store of entries: operations of hypervisor calls, and accesses by a cached
+//! translation until its entry is removed.
 ghost use Rattle.std.specs.Prelude.{◌≡◌, ◌<◌, ◌-◌, ◌^◌, IfOk, IfSome};
 ghost use Rattle.hpte_fields.specs.TableSize.{entry_count};
 ghost use Rattle.entry_model.specs.Receipt.{IsNormal};

@@ -1,4 +1,4 @@
-//! A run over each kind of table.
+//! The runs that are measured: on a plain table, on one behind a lock, and on the running table.
 ghost use Rattle.std.specs.Prelude.{◌≡◌, ◌<◌, ◌≤◌, ◌-◌, ◌^◌, IfSome, vec_len};
 ghost use Rattle.hpte_fields.specs.TableSize.{entry_count, IsTableOrder};
 ghost use Rattle.entry_model.specs.Receipt.{IsNormal};

@@ -1,4 +1,4 @@
-//! What the words of the program say.
+//! The command line of the program: the kind of table, and the threads, place, order and tries.
 use std::alloc::Global;
 use std::rt::Env;
 use std::{env, io};
@@ -56,7 +56,7 @@ fn run_of(words: &[String]) -> Option<Run> {
     })
 }
 
-/// The words behind the program's name, if there are any.
+/// Whether no word follows the program's name, and the run that the words ask for.
 pub fn read(rt: &(impl Env + Alloc<A = Global>)) -> io::Result<(bool, Option<Run>)> {
     let mut words = Vec::new(rt.alloc());
     for word in env::args(rt)?.skip(1) {

@@ -18,7 +18,7 @@ one_in : (b : Bool) (bit mask : ℕ) → bit_and bit mask ≡ bit → bit_and (o
 one_in true bit mask h = h
 one_in false bit mask h = and_zero_l mask
 
--- A mask of what stands there with the bits.
+-- The mask of a doubleword with two bits put in is that of each part.
 mask_of_three :
     (d a b mask : ℕ)
     → bit_and (bit_or (bit_or d a) b) mask
@@ -26,7 +26,7 @@ mask_of_three :
 mask_of_three d a b mask =
     mask_of_or (bit_or d a) b mask ∙ ap (λ n. bit_or n (bit_and b mask)) (mask_of_or d a mask)
 
--- A mask without the bits sees what stood there.
+-- A mask without the bits sees the doubleword as it was.
 pub put_off :
     (d mask : ℕ) (r c : Bool)
     → bit_and 0x100 mask ≡ 0

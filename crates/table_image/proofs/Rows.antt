@@ -135,7 +135,7 @@ image_of_two :
 unfolding image_of image_head digits entry entry_digits hex_on_literals
 image_of_two = refl
 
--- The first of two that the layout can't hold, behind one that it can.
+-- The first of two that the layout can't hold, after one that it can.
 image_past :
     image_of New 18
     (entry 1 0x1001 0x3012

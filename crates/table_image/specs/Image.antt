@@ -1,5 +1,5 @@
--- The image of a table: a line with its order and how many entries follow, then a line for each
--- entry.
+-- The image of a table: a line with the layout, the order and the number of entries, then a line
+-- for each entry.
 use Rattle.std.specs.Prelude.{◌≡◌, ℕ, ◌^◌, ◌<◌, ⊤, bit_and, Bool, List, [], ◌++◌, length, find, codes, Option, Some, None, is_none, unwrap_or, Result, Ok, Err}
 use Rattle.std.specs.List.{flat_map}
 use Rattle.std.specs.Fmt.{decimal}
@@ -58,7 +58,8 @@ image_of layout order entries =
     (find (is_unheld layout) entries)
     (image_head layout order (length entries) ++ flat_map (entry_line layout) entries)
 
--- What an error tells of the image: the index in place of it, or, where memory ends, nothing.
+-- What an error says of the image: that there is the index instead of a text or, where memory ends,
+-- nothing.
 abbrev pub TellsOf : ImageError → Result (List ℕ) ℕ → Type 0
 TellsOf (errors.Layout index) image = image ≡ Err index
 TellsOf errors.Memory image = ⊤

@@ -37,7 +37,7 @@ segment_bits = 0x0C00000000000000
 abbrev pub fits_new : ℕ × ℕ → Bool
 fits_new w = (bit_and w.0 unheld == 0) && (bit_and w.1 segment_bits == 0)
 
--- The newer layout's doublewords of an entry that it can hold: B stands in the second, and the
+-- The newer layout's doublewords of an entry that it can hold: B is in the second, and the
 -- first has 52 bits.
 abbrev pub new_words : ℕ × ℕ → ℕ × ℕ
 new_words w = (w.0 % 2 ^ 52, w.1 + segment_code w.0 * 2 ^ 58)

@@ -1,3 +1,4 @@
+//! The conversion of an entry's doublewords to 32 hexadecimal digits and back, in either layout.
 ghost use Rattle.std.specs.Prelude.{◌≡◌};
 ghost use Rattle.table_image.specs.Layouts.{digits_of_words, words_of_digits, laid_out, read_words, entry_digits, entry_words};
 

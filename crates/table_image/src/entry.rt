@@ -1,3 +1,5 @@
+//! What an image lists of an entry: its index, and its doublewords in the older layout.
+
 /// A valid entry of a table, as an image lists it.
 #[derive(Clone, Copy, PartialEq, Eq, Debug)]
 pub struct ImageEntry {

@@ -1,3 +1,4 @@
+//! The two failures of an image: an entry that the layout can't hold, and lack of memory.
 use std::alloc::AllocError;
 
 /// Why there is no image.

@@ -1,3 +1,5 @@
+//! The text of a whole table: a line with the layout, the order and the count, then a line for each
+//! entry.
 ghost use Rattle.std.specs.Prelude.{◌≡◌, ◌++◌, IsAscii, IfErr, IfOk, OnOk, string_bytes, length};
 ghost use Rattle.table_image.specs.Image.{TellsOf, layout_word, image_head, digits_line, image_of};
 
@@ -71,7 +73,7 @@ fn put_line(out: &mut String, index: u32, digits: &[u8; 32]) -> Result<(), Alloc
 
 /// The image of a table of `2^order` bytes with these valid entries, in this layout: a line with
 /// the layout, the order and how many entries there are, and for each entry a line of its index and
-/// its digits ([`digits_of`]). The lines stand in the order in which the entries are listed.
+/// its digits ([`digits_of`]). The lines are in the order in which the entries are listed.
 ///
 /// [`ImageError::Layout`] names the first entry that the layout can't hold; [`ImageError::Memory`]
 /// comes where memory ends.

@@ -1,4 +1,5 @@
-//! The law of images. The function does nothing, and its contract is the law.
+//! The digits of a stored entry are read back as its doublewords. The function does nothing, and
+//! its contract is the law.
 
 ghost use Rattle.table_image.specs.Image.{IsReadBack};
 

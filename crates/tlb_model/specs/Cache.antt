@@ -46,6 +46,6 @@ empty_cache = replicate 32 []
 abbrev pub AllInSet : (Line → Type 0) → List Line → Type 0
 AllInSet P lines = AllByRecursion P lines
 
--- A fact of each cached line.
+-- A fact of each cached translation.
 abbrev pub AllCached : (Line → Type 0) → List (List Line) → Type 0
 AllCached P cache = AllByRecursion (AllInSet P) cache

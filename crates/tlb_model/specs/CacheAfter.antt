@@ -1,4 +1,4 @@
--- A processor's cache after an access, by the reply alone.
+-- A processor's cached translations after an access, by those before it, the segment and the reply.
 use Rattle.std.specs.Prelude.{List, Option, Some, None}
 use Rattle.power_addr.specs.Pages.{VirtualPage}
 use Rattle.slb_model.specs.declared.segment.Segment.{Segment}
@@ -45,13 +45,13 @@ abbrev pub cache_after :
 cache_after cache (Some seg) (Some Walk) r = after_walk cache seg.page r
 cache_after cache seg way r = cache
 
--- ---- the line that is gone
--- A walk of a page that has a cached line comes where this line is gone.
+-- ---- the line that is stale
+-- A page that has a cached translation is walked only where this translation is stale.
 abbrev pub gone_by_way : Option By → Option Line → Option Line
 gone_by_way (Some Walk) line = line
 gone_by_way way line = None
 
--- The cached line that was gone when this reply was made, if there was one.
+-- The cached translation that was stale when this reply was made, if there was one.
 abbrev pub gone_line : List (List Line) → Option Segment → AccessReply → Option Line
 gone_line cache None r = None
 gone_line cache (Some seg) r = gone_by_way r.by (cached_line cache seg.page)

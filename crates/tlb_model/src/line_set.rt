@@ -1,3 +1,4 @@
+//! One set of cached translations: where it is full, the line that was filled first is pushed out.
 ghost use Rattle.std.specs.Prelude.{◌≡◌, [], None};
 ghost use Rattle.tlb_model.specs.Cache.{line_of_page, without_page, put_last};
 ghost use Rattle.power_addr.specs.Pages as pages;

@@ -1,3 +1,5 @@
+//! The sets of a processor's translation lookaside buffer, one of which is chosen by the page's
+//! index.
 ghost use Rattle.std.specs.Prelude.{◌≡◌, None};
 ghost use Rattle.tlb_model.specs.Cache.{cached_line, empty_cache, set_of, without_page, put_last};
 ghost use Rattle.tlb_model.specs.Sets.{with_set};
@@ -37,7 +39,7 @@ impl Tlb {
         Tlb { sets: no_lines() }
     }
 
-    /// The line of the page; `None` exactly where it has none.
+    /// The line of the page; `None` exactly if it has none.
     #[tactic(auto, unfolding(crate::specs::Cache::cached_line))]
     pub fn find(&self, page: &Page) -> Option<Line>
         ensures { result ≡ cached_line self.now page.now }

@@ -62,7 +62,7 @@ abbrev pub entry_of : ℕ → ℕ
 entry_of word = group_start word + slot_of word
 
 -- ---- lines
--- A call that is named, with its arguments and zeros behind them.
+-- A call that is named, with its arguments and zeros after them.
 abbrev pub named_call : Hcall → List ℕ → Act
 named_call hcall args = acts.Call (hcall_number hcall) (args ++ replicate (8 - length args) 0) true
 

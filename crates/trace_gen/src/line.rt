@@ -1,3 +1,5 @@
+//! A run line made of one word of 64 bits, whose parts give the processor, the kind of line, the
+//! page, the slot and the frame.
 ghost use Rattle.std.specs.Prelude.{◌≡◌, ◌<◌, false};
 ghost use Rattle.trace_gen.specs.Generated.{act_of, line_of, named_call, segment_line};
 
@@ -5,7 +7,8 @@ use papr_codes::Hcall;
 use storage_prot::Want;
 use trace_line::{Act, TraceLine};
 
-/// V, and the page of VSID 1 and index 0.
+/// V, and the abbreviated virtual page number that all pages of the lines have: that of VSID 1 and
+/// index 0.
 const FIRST_TAG: u64 = 0x1001;
 
 /// M is set, and the page may be read and written.

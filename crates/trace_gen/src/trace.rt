@@ -1,3 +1,5 @@
+//! The trace of a seed: one fixed configuration, a segment for each of four processors, and a run
+//! line for each word of Xoshiro256++.
 ghost use Rattle.std.specs.Prelude.{◌≡◌, ◌≤◌, ◌++◌, IfOk, OnOk};
 ghost use Rattle.trace_read.specs.Trace.{IsAccepted};
 ghost use Rattle.trace_gen.specs.Generated.{generated_trace, generated_config, segment_lines, lines_from, words_of_seed};
@@ -15,8 +17,7 @@ const PROCESSORS: u32 = 4;
 
 /// The trace of a seed: each processor gets a segment of VSID 1 at effective address 0, and then
 /// comes one line for each of the first `lines` words of a generator that is made from the seed. It
-/// is one that could have been read.
-/// The only error is want of memory.
+/// is one that could have been read. The only error is want of memory.
 pub fn generate(alloc: Global, seed: u64, lines: u32) -> Result<Trace, AllocError>
     requires { lines ≤ 100000 }
     ensures value { IfOk result (λ trace. trace ≡ generated_trace seed lines) }
@@ -67,7 +68,7 @@ fn push_segments(list: &mut TraceLines) -> Result<(), AllocError>
     Ok(())
 }
 
-// Appends the line of each word, numbered behind those of the segments.
+// Appends the line of each word, numbered after those of the segments.
 fn push_words(list: &mut TraceLines, seed: u64, lines: u32) -> Result<(), AllocError>
     requires { lines ≤ 100000 }
     ensures { OnOk result (list.new ≡ list.old ++ lines_from 5 (words_of_seed seed lines)) }

@@ -15,7 +15,7 @@ take_in_room kept front room within =
     ∙ sym (take-append-add kept front (room - length kept))
     ∙ ap (λ n. take n (kept ++ front)) split
 
--- All of a list fits exactly where the sum of the lengths does.
+-- All of a list fits exactly if the sum of the lengths does.
 pub whole_in_room :
     (kept front room : ℕ)
     → kept ≤ room

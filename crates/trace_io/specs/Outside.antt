@@ -1,7 +1,7 @@
--- Bytes that go in and out, where an object tells them, and the count of its faults.
+-- The bytes that a source gives or a sink takes, where these are shown, and the count of faults.
 use Rattle.std.specs.Prelude.{◌≡◌, ℕ, ◌+◌, ◌<◌, ◌≤◌, ◌^◌, ◌-◌, min, ◌⊎◌, List, [], ◌++◌, length, Option, Some, None}
 
--- These bytes were taken, the first of those that were left. An object tells what is left always or
+-- These bytes were taken, the first of those that were left. A source shows what is left always or
 -- never.
 abbrev pub Took : Option (List ℕ) → List ℕ → Option (List ℕ) → Type 0
 Took None bytes None = Unit {0}
@@ -9,14 +9,14 @@ Took None bytes (Some new) = ⊥
 Took (Some old) bytes None = ⊥
 Took (Some old) bytes (Some new) = old ≡ bytes ++ new
 
--- These bytes were put behind those that were there. An object may stop telling what it took, and
--- never begins to.
+-- These bytes were put after those that were there. A sink may stop showing what it took, and never
+-- begins to.
 abbrev pub Put : Option (List ℕ) → List ℕ → Option (List ℕ) → Type 0
 Put old bytes None = Unit {0}
 Put None bytes (Some new) = ⊥
 Put (Some old) bytes (Some new) = new ≡ old ++ bytes
 
--- Nothing is left, where that is told.
+-- Nothing is left, where this is shown.
 abbrev pub AtEnd : Option (List ℕ) → Type 0
 AtEnd None = Unit {0}
 AtEnd (Some left) = left ≡ []

@@ -1,8 +1,10 @@
 //! Where the bytes of a run come from and where its text goes.
 //!
 //! A run is generic over a [`Source`] and a [`Sink`], so that its contract can speak of the bytes
-//! read and written. Over memory they tell these bytes and fail on demand; over std's readers and
+//! read and written. Over memory they show these bytes and fail on demand; over std's readers and
 //! writers they are the program's edge.
+//!
+//! Main contracts: `read_all`, `write_all`: every byte in order, and the cause of each fault.
 #![tactic(auto)]
 
 mod memory_sink;

@@ -1,3 +1,5 @@
+//! The sink over memory: what each write takes, keeps or refuses is determined by a piece size, a
+//! room and a list of failing calls.
 ghost use Rattle.std.specs.Prelude.{◌≡◌, ◌≤◌, ◌<◌, ◌+◌, ◌++◌, length, IfOk, vec_len};
 ghost use Rattle.std.specs.Result.{result_ok};
 ghost use Rattle.std.specs.Vec.{vec_capacity};
@@ -8,7 +10,7 @@ use std::alloc::{AllocError, Global};
 use std::marker::Model;
 
 /// A sink that keeps the bytes in memory, takes a piece at a time and fails at the calls that it is
-/// made to fail at. Bytes past its room are taken and dropped, and from then on it doesn't tell
+/// made to fail at. Bytes past its room are taken and dropped, and from then on it doesn't show
 /// what it took.
 #[derive(Drop)]
 pub struct MemorySink {
@@ -100,7 +102,7 @@ impl Sink for MemorySink {
     }
 }
 
-// Puts a piece behind the others, where there is room for it already.
+// Appends a piece to the others, where there is room for it already.
 fn append_in_room(kept: &mut Vec<u8>, piece: &[u8])
     requires { vec_len kept.old + length piece.now ≤ vec_capacity kept.old }
     ensures items { kept.new.items ≡ kept.old.items ++ piece.now }

@@ -1,3 +1,5 @@
+//! The source over memory: what each read gives or refuses is determined by its bytes, a piece size
+//! and a list of failing calls.
 ghost use Rattle.std.specs.Prelude.{◌≡◌, ◌≤◌, ◌<◌, [], ◌++◌, length, take, drop, Some, IfOk, OnErr};
 ghost use Rattle.std.specs.Result.{result_ok};
 ghost use Rattle.trace_io.specs.Memory.{new_source, read_count, after_read};
@@ -5,7 +7,8 @@ ghost use Rattle.trace_io.specs.Memory.{new_source, read_count, after_read};
 use crate::outside::{Failed, Source};
 use std::marker::Model;
 
-/// A source over bytes in memory, which gives a piece at a time and fails when it is told to.
+/// A source over bytes in memory, which gives a piece at a time and fails at the calls that it is
+/// made to fail at.
 #[derive(Drop)]
 pub struct MemorySource {
     bytes: Vec<u8>,

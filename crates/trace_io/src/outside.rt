@@ -1,3 +1,5 @@
+//! The traits through which a run reads its input and writes its text, and what each call assures
+//! of bytes and faults.
 ghost use Rattle.std.specs.Prelude.{◌≡◌, ◌≤◌, ◌<◌, ℕ, List, [], take, length, Option, IfOk, OnOk, OnErr};
 ghost use Rattle.trace_io.specs.Outside.{Took, Put, AtEnd, Rose};
 
@@ -7,7 +9,7 @@ pub struct Failed;
 
 /// Where bytes come from.
 pub trait Source {
-    /// The bytes left, where the source tells them.
+    /// The bytes left, where the source shows them.
     ghost left: { Self → Option (List ℕ) };
 
     /// How often the source failed. The count may stop at the last value of a `u64`.
@@ -27,7 +29,7 @@ pub trait Source {
 
 /// Where bytes go.
 pub trait Sink {
-    /// The bytes taken, where the sink tells them.
+    /// The bytes taken, where the sink shows them.
     ghost taken: { Self → Option (List ℕ) };
 
     /// How often the sink failed. The count may stop at the last value of a `u64`.

@@ -1,3 +1,4 @@
+//! Reading a source to its end within a limit of bytes, and the three ways in which that can fail.
 ghost use Rattle.std.specs.Prelude.{◌≡◌, ◌≤◌, length, IfOk, OnOk, IsErrOf};
 ghost use Rattle.trace_io.specs.Outside.{Took, TookWithin, TookPast, AtEnd, Rose};
 

@@ -1,3 +1,5 @@
+//! Sources and sinks over the readers and writers of std: bytes are stated as std states them, and
+//! faults are counted here.
 ghost use Rattle.std.specs.Prelude.{◌≡◌, ◌≤◌, ◌<◌, length, None, is_ok, if◌then◌else◌, IfOk};
 ghost use Rattle.std.specs.Io.KnownBytes.{ReadConsumes, WriteAppends};
 ghost use Rattle.trace_io.specs.Outside.{counted};
@@ -5,7 +7,7 @@ ghost use Rattle.trace_io.specs.Outside.{counted};
 use crate::outside::{Failed, Sink, Source};
 use std::io::{Read, Write};
 
-/// A reader of std. The bytes that it has left aren't told, and each of its errors is a failure.
+/// A reader of std. The bytes that it has left aren't shown, and each of its errors is a failure.
 #[derive(Drop)]
 pub struct StdSource<I> {
     inner: I,
@@ -49,7 +51,7 @@ impl<I: Read> Source for StdSource<I> {
     }
 }
 
-/// A writer of std. The bytes that it took aren't told. Each of its errors is a failure, and so is
+/// A writer of std. The bytes that it took aren't shown. Each of its errors is a failure, and so is
 /// a write that takes nothing.
 #[derive(Drop)]
 pub struct StdSink<O> {

@@ -1,3 +1,4 @@
+//! Writing to memory without a write fault: the contract of each write says that it succeeds.
 ghost use Rattle.std.specs.Prelude.{◌≡◌, ◌≤◌, ◌<◌, [], length, IsOk, IfOk, IfSome};
 ghost use Rattle.std.specs.Result.{result_ok};
 ghost use Rattle.trace_io.specs.Memory.{new_sink, taken_bytes, write_count, after_write};
@@ -8,7 +9,7 @@ use std::alloc::{AllocError, Global};
 use std::marker::Model;
 
 /// A sink that keeps the bytes in memory and never fails: a [`MemorySink`] with no failing call.
-/// Bytes past its room are taken and dropped, and from then on it doesn't tell what it took.
+/// Bytes past its room are taken and dropped, and from then on it doesn't show what it took.
 #[derive(Drop)]
 pub struct SteadySink {
     inner: MemorySink,

@@ -1,3 +1,4 @@
+//! Reading from memory without a read fault: the contract of each read says that it succeeds.
 ghost use Rattle.std.specs.Prelude.{◌≡◌, ◌≤◌, ◌<◌, [], ◌++◌, length, take, drop, Some, IsOk, IfOk};
 ghost use Rattle.std.specs.Result.{result_ok};
 ghost use Rattle.trace_io.specs.Memory.{new_source, read_count, after_read};

@@ -1,3 +1,5 @@
+//! A text put into a sink whole, however little each write takes. It ends since a write takes at
+//! least a byte, or fails.
 ghost use Rattle.std.specs.Prelude.{◌≡◌, ◌≤◌, OnOk, OnErr};
 ghost use Rattle.trace_io.specs.Outside.{Put, PutPrefix, Rose};
 

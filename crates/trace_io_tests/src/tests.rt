@@ -1,3 +1,5 @@
+//! Pieces, limits, faults and full rooms: reading and writing over memory, and over readers and
+//! writers of std that fail.
 ghost use Rattle.std.specs.Prelude.{◌≤◌};
 
 use std::alloc::{AllocError, Global};

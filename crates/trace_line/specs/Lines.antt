@@ -1,4 +1,4 @@
--- The run lines of a trace, and what holds of them.
+-- The run lines of a trace: which are quiet, which name a DMA window, and how many there may be.
 use Rattle.std.specs.Prelude.{◌≡◌, ℕ, ◌^◌, ◌≤◌, ◌<◌, Bool, true, false, List, [], length, count_by, IsTrue, Option, Some, None, slice_index}
 use Rattle.std.specs.List.{AllByRecursion}
 use Rattle.papr_codes.specs.declared.calls.Hcall.{Hcall}

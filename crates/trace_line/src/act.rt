@@ -1,3 +1,5 @@
+//! The kinds of run lines: hypervisor calls, accesses of processors and devices, changes of the
+//! segment lookaside buffer and of masks, and dumps.
 ghost use Rattle.std.specs.Prelude.{◌≡◌};
 
 use authority_mask::MaskName;

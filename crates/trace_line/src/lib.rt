@@ -1,4 +1,6 @@
 //! The run lines of a trace: what each asks for, on which processor.
+//!
+//! Main contracts: `Act::is_quiet`: at resizes and dumps alone.
 #![tactic(auto)]
 
 mod act;

@@ -1,3 +1,4 @@
+//! A run line with its number and its processor, and the list of all run lines of a trace.
 ghost use Rattle.std.specs.Prelude.{◌≡◌, ◌++◌, [], ◌∷◌, OnOk, OnErr};
 
 use crate::act::Act;

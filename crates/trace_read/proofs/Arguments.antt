@@ -5,7 +5,7 @@ use Rattle.trace_read.specs.declared.why.Why.{Why}
 use Rattle.trace_read.specs.Acts.{number_at, arguments_from}
 use Rattle.trace_read.specs.Whys.{◌>>=◌}
 
--- The arguments that are read, and behind them `n` more: the `k`th from an index on, and so forth.
+-- The arguments that are read, and after them `n` more: the `k`th from an index on, and so forth.
 abbrev pub arguments_onto : List (List ℕ) → ℕ → ℕ → ℕ → List ℕ → Result (List ℕ) Why
 arguments_onto ws i k zero args = Ok args
 arguments_onto ws i k (suc n) args =

@@ -28,7 +28,7 @@ unfolding trace_of after_lines after_line after_text after_words after_form form
     suits_grants machine_range hex_on_literals
 config_on_literals = tt
 
--- Lines behind an order and 1 GB of memory: the first of them is the third.
+-- Lines after an order and 1 GB of memory: the first of them is the third.
 abbrev granted : List ℕ → List ℕ
 granted lines = codes "order 18\nram 0x0 0x2000000000 0x40000000\n" ++ lines
 
@@ -256,7 +256,7 @@ refused_number : trace_of (granted (codes "entry older x 0")) ≡ Err (3, whys.N
 unfolding config_on_literals entry
 refused_number = refl
 
--- Behind an entry comes no grant and no other setting; behind `begin` comes no entry.
+-- After an entry comes no grant and no other setting; after `begin` comes no entry.
 refused_ram_behind :
     trace_of
     (granted

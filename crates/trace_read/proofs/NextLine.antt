@@ -17,7 +17,7 @@ next_line r number line next =
     let before : number - 1 ≡ r.taken = omega (arith, next) in
     rw before refl
 
--- Behind the most lines there are, each is refused.
+-- After the most lines there are, each is refused.
 pub past_lines :
     (r : Reading) (line : List ℕ) → most_lines ≤ r.taken → after_line r line ≡ Err whys.Lines
 unfolding after_line

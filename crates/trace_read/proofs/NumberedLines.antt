@@ -33,7 +33,7 @@ remarks_taken (suc n) r rest few =
     ∙ remarks_taken n (record r { taken = r.taken + 1 }) rest (omega arith)
     ∙ ap (λ t. after_lines (record r { taken = t }) rest) seam
 
--- A line at its number, behind remarks.
+-- A line at its number, after remarks.
 line_reached :
     (r : Reading) (number : ℕ) (line : List ℕ) (rest : List (List ℕ))
     → r.taken < number
@@ -77,7 +77,7 @@ pub reads_as_the_input : ReadsAsTheInput
 reads_as_the_input pool_base pool_order lines rise =
     read_from lines (reading_beside pool_base pool_order) rise
 
--- A further line behind accepted ones.
+-- A further line after accepted ones.
 behind :
     (n : ℕ) (said : Result Reading Why) (f : Reading → Result Reading Why)
     (g : Reading → Result AcceptedTrace (ℕ × Why))

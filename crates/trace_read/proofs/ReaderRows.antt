@@ -1,4 +1,4 @@
--- Lines with their numbers on worked inputs: what each gives, and what is told where one is
+-- Lines with their numbers on worked inputs: what each gives, and what is reported where one is
 -- refused.
 use Rattle.std.proofs.Common.{◌≡◌, ℕ, [], ◌∷◌, Some, None, refl, Ok, Err}
 use Rattle.std.specs.Prelude.{codes, true, false, ⊤}
@@ -140,7 +140,7 @@ unfolding lines_on_literals
 pool_range = refl
 
 -- ---- refused lines
--- A grant that meets the pool is told.
+-- A grant that meets the pool is named.
 meets_pool : after_numbered 3 opening_reading (codes "ram 0 0x1000000000 0x1000") ≡ Err whys.Tables
 unfolding lines_on_literals
 meets_pool = refl
@@ -199,7 +199,7 @@ refused_at :
 unfolding lines_on_literals
 refused_at = refl
 
--- At the end `begin` is due behind the last of them.
+-- At the end `begin` is due after the last of them.
 ends_at : trace_given opening_reading ((4, codes "order 18") ∷ []) ≡ Err (5, whys.Begin)
 unfolding lines_on_literals
 ends_at = refl

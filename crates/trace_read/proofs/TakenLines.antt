@@ -27,7 +27,7 @@ kept : {A : Type 0} (n : ℕ) (said : Result A Why) (f : A → Result Reading Wh
 kept n (Ok x) f s each e = each x e
 kept n (Err why) f s each e = cc
 
--- A reading that is told is the one that is accepted.
+-- A reading that was given is the one that is accepted.
 same :
     (n : ℕ) (said : Result Reading Why) (t s : Reading)
     → said ≡ Ok t

@@ -64,7 +64,7 @@ four_windows :
 unfolding windows_on_literals
 four_windows = refl
 
--- Behind a grant and an entry.
+-- After a grant and an entry.
 behind_an_entry :
     trace_of
     (codes "ram 0x0 0x2000000000 0x40000000\n"
@@ -156,7 +156,7 @@ refused_many : trace_of (codes "window 1 0 1 1\n") ≡ Err (1, whys.Count)
 unfolding windows_on_literals
 refused_many = refl
 
--- Each word behind the first has to be a number, before any is tried.
+-- Each word after the first has to be a number, before any is tried.
 refused_word : trace_of (codes "window x y z\n") ≡ Err (1, whys.Number)
 unfolding windows_on_literals
 refused_word = refl
@@ -169,7 +169,7 @@ refused_pages_word : trace_of (codes "window 0x100000000 0 1z\n") ≡ Err (1, wh
 unfolding windows_on_literals
 refused_pages_word = refl
 
--- Behind a window comes no entry, no grant and no other setting; behind `begin` comes no window.
+-- After a window comes no entry, no grant and no other setting; after `begin` comes no window.
 refused_entry_behind :
     trace_of
     (codes "ram 0x0 0x2000000000 0x40000000\n"

@@ -12,7 +12,7 @@ use Rattle.trace_read.specs.Numbers.{number_of}
 use Rattle.trace_read.specs.Whys.{◌>>=◌, guard, required}
 
 -- ---- words
--- How many words a line may have. `hcall` has a number and zero to eight arguments behind it.
+-- How many words a line may have. `hcall` has a number and zero to eight arguments after it.
 abbrev pub takes : Verb → ℕ → Bool
 takes (verbs.Named hcall args) count = count == args + 2
 takes verbs.Numbered count = nat_le 3 count && nat_le count 11
@@ -48,7 +48,7 @@ mode_at ws i =
     else Err Mode
 
 -- ---- lines
--- What the words behind the processor and the verb ask for.
+-- What the words after the processor and the verb ask for.
 unfoldable pub act_by : Verb → List (List ℕ) → Result Act Why
 act_by (verbs.Named hcall count) ws = do
   args ← arguments_from ws 2

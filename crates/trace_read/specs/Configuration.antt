@@ -1,4 +1,5 @@
--- The configuration of a partition.
+-- The configuration of a partition: orders, processors, grants, opening entries and DMA windows,
+-- with their limits.
 use Rattle.std.specs.Prelude.{◌≡◌, ℕ, ◌<◌, ◌≤◌, List, [], ◌∷◌, length, Some}
 use Rattle.std.specs.List.{AllByRecursion}
 use Rattle.bus_window.specs.Windows.{BusWindow, IsWindow}
@@ -21,7 +22,7 @@ abbrev pub IsTraceOrder : ℕ → Type 0
 IsTraceOrder order = (least_order ≤ order) × (order ≤ greatest_trace_order)
 
 -- The order of the opening table, the highest order that the guest may ask for, the number of
--- processors, the grants beside the pool of table memory, the entries that are valid in the opening
+-- processors, the grants and the pool of table memory, the entries that are valid in the opening
 -- table, and the windows through which devices reach memory.
 pub record Configuration : Type 0 where
   pub order : ℕ
@@ -32,7 +33,7 @@ pub record Configuration : Type 0 where
   pub windows : List BusWindow
 
 -- Orders are those of a trace, there are no more processors than may be, and the pool is the one
--- that the grants stand beside.
+-- recorded with the grants.
 pub record AreSettings
     (order limit cpus pool_base pool_order : ℕ)
     (granted : GrantedMemory)

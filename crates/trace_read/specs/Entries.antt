@@ -1,4 +1,4 @@
--- What the lines of entries of the opening table give, as readings of their words.
+-- What `entry` lines give: entries of the opening table that H_ENTER would store unchanged.
 use Rattle.std.specs.Prelude.{ℕ, ◌==◌, ◌&&◌, Bool, false, List, [], ◌∷◌, ◌++◌, length, find, nat_lt, slice_index_or, Option, Result, Ok}
 use Rattle.std.specs.List.{list_all}
 use Rattle.std.specs.Option.{option_map_or}

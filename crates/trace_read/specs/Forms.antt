@@ -1,4 +1,4 @@
--- The words by which lines are known.
+-- The forms of lines by their first words: keywords, and the verbs that follow a processor.
 use Rattle.std.specs.Prelude.{ℕ, ◌&&◌, Bool, true, false, IsTrue, List, [], ◌∷◌, codes, nat_le, slice_index, Option, Some, None, Result, Ok, Err, find, if◌then◌else◌}
 use Rattle.std.specs.Str.{bytes_eq}
 use Rattle.frame_grants.specs.declared.grant.Kind.TheVariants.{Ram, Io}
@@ -15,7 +15,7 @@ use Rattle.trace_read.specs.declared.why.Why.{Why}
 use Rattle.trace_read.specs.declared.why.Why.TheVariants.{Word}
 use Rattle.trace_read.specs.Whys.{◌>>=◌, required}
 
--- ---- the word behind the processor
+-- ---- the word after the processor
 -- The calls that have a name, and how many arguments each has.
 abbrev pub call_rows : List (Hcall × ℕ)
 call_rows =
@@ -56,7 +56,7 @@ abbrev pub call_or : Option (Hcall × ℕ) → Option Verb → Option Verb
 call_or (Some row) other = Some (verbs.Named row.0 row.1)
 call_or None other = other
 
--- What a word behind the processor asks for.
+-- What a word after the processor asks for.
 unfoldable pub verb_of : List ℕ → Option Verb
 verb_of word = call_or (call_named word) (other_verb word)
 
@@ -80,7 +80,7 @@ form_named word =
     else if bytes_eq (codes "dump") word then Some forms.Dump
     else None
 
--- Behind a processor stands what it does. A line of the processor alone is one too.
+-- After a processor its line names what it does. A line of the processor alone has this form too.
 unfoldable pub run_form : List (List ℕ) → Result Form Why
 run_form [] = Ok (forms.Run None)
 run_form (w ∷ ws) = do

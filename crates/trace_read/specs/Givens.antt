@@ -1,4 +1,4 @@
--- What an accepted line gives, and what is told of a refused one.
+-- What an accepted line gives, and what is reported of a refused one.
 use Rattle.std.specs.Prelude.{ℕ, Bool, true, false, List, Option, Some, None, Result, Ok, Err, if◌then◌else◌}
 use Rattle.frame_grants.specs.declared.grant.Grant.{Grant}
 use Rattle.trace_read.specs.declared.forms.Form.{Form}
@@ -51,7 +51,7 @@ abbrev pub given_if : Result Form Why → Configuration → List (List ℕ) → 
 given_if (Ok form) c ws = given_by form c ws
 given_if (Err why) c ws = givens.Remark
 
--- What a line with these words gives, behind lines that have given this configuration.
+-- What a line with these words gives, after lines that have given this configuration.
 abbrev pub given_of : Configuration → List (List ℕ) → Given
 given_of c ws = if is_remark ws then givens.Remark else given_if (form_of ws) c ws
 
@@ -70,12 +70,12 @@ form_grant other ws = None
 abbrev pub line_grant : List (List ℕ) → Option Grant
 line_grant ws = form_grant (form_of ws) ws
 
--- The grant that is told with a refusal: the one that meets the pool of page tables, and no other.
+-- The grant that a refusal names: the one that meets the pool of page tables, and no other.
 abbrev pub refused_grant : Why → List (List ℕ) → Option Grant
 refused_grant whys.Tables ws = line_grant ws
 refused_grant other ws = None
 
--- What is told of a line with these words that stops for this.
+-- What a line with these words gives if it stops for this: a refusal, or want of memory.
 abbrev pub refused_by : Stop → List (List ℕ) → LineRefused
 refused_by stops.Memory ws = refusals.Memory
 refused_by (stops.Refused why) ws = refusals.Refused why (refused_grant why ws)

@@ -1,4 +1,4 @@
--- The trace that an input gives: a machine over its lines.
+-- The trace that an input gives, by a state machine over its lines.
 use Rattle.std.specs.Prelude.{◌≡◌, ◌≤◌, ℕ, ◌+◌, ◌-◌, ◌^◌, true, false, List, [], ◌∷◌, ◌++◌, length, Result, Ok, Err, if◌then◌else◌, nat_lt}
 use Rattle.std.specs.List.{list_all}
 use Rattle.trace_read.specs.declared.forms.Form.{Form}
@@ -29,7 +29,7 @@ pub record Reading : Type 0 where
   pub config : Configuration
   pub lines : List TraceLine
 
--- Before the first line, where this pool stands until a line names another.
+-- Before the first line, with this pool until a line names another.
 abbrev pub reading_beside : ℕ → ℕ → Reading
 reading_beside pool_base pool_order = record {
   taken = 0;
@@ -38,7 +38,7 @@ reading_beside pool_base pool_order = record {
   lines = [];
 }
 
--- The pool that stands in a trace that names none has 2 ^ 24 bytes.
+-- Before the first line, with the default pool of 2 ^ 24 bytes.
 abbrev pub opening_reading : Reading
 opening_reading = reading_beside 0x1000000000 24
 
@@ -101,7 +101,7 @@ abbrev pub after_numbered : ℕ → Reading → List ℕ → Result Reading Why
 after_numbered number r line = after_line (at_line number r) line
 
 -- ---- all lines
--- A refusal is told with the number of its line.
+-- A refusal is given with the number of its line.
 abbrev pub go_on :
     ℕ
     → Result Reading Why
@@ -136,7 +136,7 @@ trace_of bytes =
 
 -- ---- what holds of a reading at all times
 -- Before the first line the limit is the highest. There are no entries while grants may come. Run
--- lines come behind `begin` alone, where the pool has room for the table; they are a trace's, and
+-- lines come after `begin` alone, where the pool has room for the table; they are a trace's, and
 -- no more than the lines that were read.
 pub record IsReading (r : Reading) : Type 0 where
   pub highest : is_first r.stage ≡ true → r.config.limit ≡ greatest_trace_order

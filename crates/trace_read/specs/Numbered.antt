@@ -15,7 +15,7 @@ AreNumbered taken (x ∷ xs) = (taken < x.0) × (x.0 ≤ most_lines) × AreNumbe
 abbrev pub remarks : ℕ → List (List ℕ)
 remarks count = replicate count (35 ∷ [])
 
--- The lines behind the first so many: each of these at its number, and a remark at each number
+-- The lines after the first so many: each of these at its number, and a remark at each number
 -- between.
 abbrev pub numbered : ℕ → List (ℕ × List ℕ) → List (List ℕ)
 numbered taken [] = []

@@ -1,4 +1,4 @@
--- The number that a word writes.
+-- The number of 64 bits that a word writes in decimal or hexadecimal digits.
 use Rattle.std.specs.Prelude.{ℕ, ◌^◌, ◌==◌, ◌&&◌, ◌||◌, Bool, List, length, Option, Some, None, if◌then◌else◌, nat_lt, nat_le, drop, slice_index}
 use Rattle.std.specs.List.{list_all}
 use Rattle.std.specs.Str.Parse.{digits_value}

@@ -1,4 +1,4 @@
--- Where each form of line may stand.
+-- Which forms of line may come next, by the lines that came before.
 use Rattle.std.specs.Prelude.{Bool, true, false, not}
 use Rattle.trace_read.specs.declared.forms.Form.{Form}
 use Rattle.trace_read.specs.declared.forms.Form.TheVariants as forms
@@ -28,8 +28,8 @@ may_have_windows stages.Windows = true
 may_have_windows stages.Lines = true
 may_have_windows other = false
 
--- `order`, `limit`, `cpus` and `pool` come in this order, each at most once; grants behind them,
--- then entries, then windows, and then `begin`; run lines and dumps behind `begin`.
+-- `order`, `limit`, `cpus` and `pool` come in this order, each at most once; grants after them,
+-- then entries, then windows, and then `begin`; run lines and dumps after `begin`.
 abbrev pub comes_at : Form → Stage → Bool
 comes_at forms.Order stage = is_first stage
 comes_at forms.Limit stages.Order = true

@@ -1,4 +1,4 @@
--- What the code that reads a trace answers.
+-- What the functions that read a trace give: what the grammar says, or want of memory.
 use Rattle.std.specs.Prelude.{◌≡◌, ℕ, true, false, List, Result, Ok, Err}
 use Rattle.trace_read.specs.declared.given.Given.{Given}
 use Rattle.trace_read.specs.declared.given.LineRefused.{LineRefused}
@@ -36,7 +36,7 @@ Reads said ws (Err refusals.Memory) old new = new ≡ old
 Reads said ws (Err (refusals.Refused why grant)) old new =
     (said ≡ Err why) × (grant ≡ refused_grant why ws) × (new ≡ old)
 
--- A refusal is told with the number of its line.
+-- A refusal is given with the number of its line.
 abbrev pub error_of : ℕ → LineRefused → TraceError
 error_of line (refusals.Refused why grant) = errors.Line line why
 error_of line refusals.Memory = errors.Memory

@@ -1,4 +1,4 @@
--- The laws of lines that are given with their numbers.
+-- Laws of lines read one by one with their numbers: they give what the whole input gives.
 use Rattle.std.specs.Prelude.{◌≡◌, ◌<◌, ◌≤◌, ℕ, true, List, [], ◌∷◌, ◌++◌, Ok}
 use Rattle.std.specs.List.{list_all}
 use Rattle.trace_read.specs.Grammar.{Reading, reading_beside, after_text, after_numbered, after_lines, go_on, trace_at_end}

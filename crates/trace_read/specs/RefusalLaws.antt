@@ -1,4 +1,4 @@
--- The laws of what lines are refused for.
+-- Laws of refusals: one for meeting the pool names a grant, and none is for a partition.
 use Rattle.std.specs.Prelude.{◌≡◌, ℕ, true, List, Err, is_some}
 use Rattle.trace_read.specs.declared.why.Why.TheVariants as whys
 use Rattle.trace_read.specs.Givens.{line_grant}

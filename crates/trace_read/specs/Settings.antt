@@ -43,7 +43,7 @@ with_order c ws = do
   order ← number_within ws least_order greatest_trace_order
   Ok (record c { order = order })
 
--- The limit is not below the order that stands by now.
+-- `limit`: the highest order that the guest may ask for, not below the order so far.
 unfoldable pub with_limit : Configuration → List (List ℕ) → Result Configuration Why
 with_limit c ws = do
   limit ← number_within ws c.order greatest_trace_order
@@ -55,7 +55,7 @@ with_cpus c ws = do
   cpus ← number_within ws 1 most_processors
   Ok (record c { cpus = cpus })
 
--- The base and the order of the pool that a line names behind its first word.
+-- The base and the order of the pool that a line names after its first word.
 unfoldable pub pool_named : List (List ℕ) → Result (ℕ × ℕ) Why
 pool_named ws = do
   counted ← guard (length ws == 3) Count
@@ -64,7 +64,7 @@ pool_named ws = do
   within ← guard (is_none (range_refusal base order)) Range
   Ok (base, order)
 
--- The grants are still to come.
+-- `pool`: the machine range for page tables. The grants are still to come.
 unfoldable pub with_pool : Configuration → List (List ℕ) → Result Configuration Why
 with_pool c ws = do
   pool ← pool_named ws

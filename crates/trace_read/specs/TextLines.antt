@@ -12,7 +12,7 @@ abbrev pub without_last : ℕ → List ℕ → List ℕ
 without_last c bytes =
     if slice_index bytes (length bytes - 1) == c then take (length bytes - 1) bytes else bytes
 
--- A line ends at LF or at the end of the input, and behind the last LF there is none.
+-- A line ends at LF or at the end of the input, and after the last LF there is none.
 abbrev pub raw_lines : List ℕ → List (List ℕ)
 raw_lines [] = []
 raw_lines (c ∷ cs) = slice_split is_lf (without_last 10 (c ∷ cs))
@@ -29,7 +29,7 @@ is_printable c = (c == 9) || (nat_le 32 c && nat_le c 126)
 abbrev pub is_blank : ℕ → Bool
 is_blank c = (c == 9) || (c == 32)
 
--- The words of a line: what stands between blanks, where anything does.
+-- The words of a line: what is between blanks, where anything is.
 abbrev pub words_of : List ℕ → List (List ℕ)
 words_of line = filter (λ w. not (length w == 0)) (slice_split is_blank line)
 

@@ -1,4 +1,4 @@
--- Accepted traces.
+-- Accepted traces: the configuration and run lines, and the limits that each trace keeps.
 use Rattle.std.specs.Prelude.{List}
 use Rattle.frame_grants.specs.Grants.{IsSound}
 use Rattle.trace_line.specs.declared.line.TraceLine.{TraceLine}
@@ -10,9 +10,9 @@ pub record AcceptedTrace : Type 0 where
   pub config : Configuration
   pub lines : List TraceLine
 
--- What each accepted trace has: the configuration lines were accepted, the grants stand beside the
--- pool, the entries may lie in the opening table, the windows differ in their numbers, and the run
--- lines keep the limits.
+-- What each accepted trace has: the configuration lines were accepted, no grant meets the pool or
+-- another grant, the entries may lie in the opening table, the windows differ in their numbers, and
+-- the run lines keep the limits.
 pub record IsAccepted (t : AcceptedTrace) : Type 0 where
   pub configured :
       IsConfigured

@@ -1,5 +1,4 @@
--- The reasons for which a line is refused, and how a line is read with reasons that are tried in
--- their order.
+-- The word of each reason of refusal, and steps of reading that try the reasons in order.
 use Rattle.std.specs.Prelude.{ℕ, Bool, true, false, List, codes, Option, Some, None, Result, Ok, Err}
 use Rattle.frame_grants.specs.declared.error.GrantError.{GrantError}
 use Rattle.frame_grants.specs.declared.error.GrantError.TheVariants as grants

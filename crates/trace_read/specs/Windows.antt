@@ -1,4 +1,4 @@
--- What the lines of windows give, as readings of their words.
+-- What `window` lines give: DMA windows with distinct numbers, at most four.
 use Rattle.std.specs.Prelude.{ℕ, ◌==◌, Bool, not, List, [], ◌∷◌, ◌++◌, length, nat_lt, Result, Ok}
 use Rattle.std.specs.List.{list_any}
 use Rattle.bus_window.specs.Windows.{BusWindow, window_of_parts}

@@ -1,3 +1,5 @@
+//! Run lines read from their words: a processor with its hypervisor call, access, or setting of
+//! segments and masks, or a dump.
 ghost use Rattle.std.specs.Prelude.{◌≡◌, ◌≤◌, ◌<◌, [], IfOk, slice_index_or};
 ghost use Rattle.trace_read.specs.Forms.{IsNamedVerb, IsNamedForm};
 ghost use Rattle.trace_read.specs.TextLines.{texts};
@@ -29,7 +31,7 @@ pub fn number_at(words: &[&[u8]], i: usize) -> Result<u64, Why>
     }
 }
 
-/// The arguments of a call, of which the first stands at this index.
+/// The arguments of a call, the first of which is at this index.
 fn arguments_from(words: &[&[u8]], first: usize) -> Result<[u64; 8], Why>
     requires { first ≤ 3 }
     ensures { result ≡ arguments_from (texts words.now) first }
@@ -56,7 +58,7 @@ fn mode_at(words: &[&[u8]], i: usize) -> Result<bool, Why>
     }
 }
 
-/// What the words behind the processor and the verb ask for.
+/// What the words after the processor and the verb ask for.
 #[tactic(auto, unfolding(crate::specs::Acts::act_by))]
 fn act(verb: Verb, words: &[&[u8]]) -> Result<Act, Why>
     requires { IsNamedVerb verb }

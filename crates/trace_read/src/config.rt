@@ -1,3 +1,5 @@
+//! The configuration of a trace and the limits that it keeps: table orders, processors, pool,
+//! grants, opening entries and DMA windows.
 use crate::entries::EntryLines;
 use crate::windows::WindowLines;
 use frame_grants::Grants;
@@ -23,7 +25,7 @@ pub struct Config {
     pub pool_base: u64,
     /// The pool has `2^pool_order` bytes; it has room for the opening table.
     pub pool_order: u8,
-    /// The memory that is granted to the guest, beside that pool.
+    /// The memory that is granted to the guest; no grant meets that pool.
     pub grants: Grants,
     /// The valid entries of the opening table.
     pub entries: EntryLines,

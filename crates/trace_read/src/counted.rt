@@ -1,3 +1,5 @@
+//! The run lines of a trace while they are read, kept within 256 quiet lines and 16 dumps, which
+//! are quiet lines too.
 ghost use Rattle.std.specs.Prelude.{◌≡◌, ◌++◌, [], ◌∷◌, OnOk, OnErr, Ok, length};
 ghost use Rattle.trace_read.specs.Counts.{may_add, AreFew};
 

@@ -1,10 +1,12 @@
+//! The page table entries that the configuration lines of a trace put into its table before the
+//! first run line.
 ghost use Rattle.std.specs.Prelude.{◌≡◌, ◌++◌, [], ◌∷◌, OnOk, OnErr};
 
 use std::alloc::{AllocError, Global};
 use std::marker::Model;
 use table_image::ImageEntry;
 
-/// The valid entries of an opening table, in rising index.
+/// The valid entries of an opening table, in the order of their lines.
 #[derive(Drop)]
 pub struct EntryLines {
     items: Vec<ImageEntry>,

@@ -1,3 +1,5 @@
+//! What an `entry` line is tested for: its layout, a rising index, 32 digits, and doublewords that
+//! H_ENTER would store unchanged.
 ghost use Rattle.std.specs.Prelude.{◌≡◌};
 ghost use Rattle.table_image.specs.Layouts.{entry_words};
 ghost use Rattle.trace_read.specs.Configuration.{AreRising};

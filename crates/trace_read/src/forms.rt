@@ -1,3 +1,5 @@
+//! The forms of a trace's lines, known by their first word: a digit begins a processor's line, and
+//! any other line begins with a keyword.
 ghost use Rattle.std.specs.Prelude.{◌≡◌, IfSome, IfOk};
 ghost use Rattle.std.specs.Str.{bytes_eq};
 ghost use Rattle.trace_read.specs.Givens.{is_setting, is_setting_form};
@@ -8,7 +10,7 @@ use crate::verbs::{Verb, named_verb};
 use crate::why::Why;
 use frame_grants::Kind;
 
-/// The form of a line, as its first words tell it.
+/// The form of a line, as its first words show it.
 #[derive(Clone, Copy)]
 pub enum Form {
     /// `order S`
@@ -89,7 +91,7 @@ fn named_form(word: &[u8]) -> Option<Form>
     }
 }
 
-/// The form of a line that begins with a processor, from the words behind it.
+/// The form of a line that begins with a processor, from the words after it.
 #[tactic(auto, unfolding(crate::specs::Forms::run_form))]
 fn processor_form(words: &[&[u8]]) -> Result<Form, Why>
     ensures form { result ≡ run_form (texts words.now) }
@@ -119,7 +121,7 @@ pub fn line_form(words: &[&[u8]]) -> Result<Form, Why>
 }
 
 /// Whether the words are of a configuration line's form: `order`, `limit`, `cpus`, `pool`, `ram`,
-/// `io`, `entry`, `window` or `begin`, whatever stands behind this first word.
+/// `io`, `entry`, `window` or `begin`, whatever follows this first word.
 pub fn is_setting(words: &[&[u8]]) -> bool
     ensures { result ≡ is_setting (texts words.now) }
 {

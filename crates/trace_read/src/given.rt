@@ -1,3 +1,4 @@
+//! The outcome of one line for the caller of a reader: what it gives, or why it gives nothing.
 use crate::why::Why;
 use frame_grants::Grant;
 

@@ -1,3 +1,5 @@
+//! Memory grants read from `ram` and `io` lines, and the grant that a refusal names when it meets
+//! the pool of page tables.
 ghost use Rattle.std.specs.Prelude.{◌≡◌};
 ghost use Rattle.trace_read.specs.Givens as line;
 ghost use Rattle.trace_read.specs.Settings as setting;
@@ -39,7 +41,7 @@ fn line_grant(words: &[&[u8]]) -> Option<Grant>
     }
 }
 
-/// The grant that is told with a refusal for this reason.
+/// The grant that a refusal for this reason names.
 fn refused_grant(why: Why, words: &[&[u8]]) -> Option<Grant>
     ensures { result ≡ line.refused_grant why (texts words.now) }
 {
@@ -50,7 +52,7 @@ fn refused_grant(why: Why, words: &[&[u8]]) -> Option<Grant>
     }
 }
 
-/// What is told of a line with these words that stops for this.
+/// What a line with these words gives if it stops for this: a refusal, or want of memory.
 pub fn refused_by(stop: Stop, words: &[&[u8]]) -> LineRefused
     ensures { result ≡ line.refused_by stop (texts words.now) }
 {

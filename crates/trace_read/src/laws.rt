@@ -6,7 +6,7 @@ ghost use Rattle.trace_read.specs.RefusalLaws.{TablesNameAGrant, NoneIsRefusedFo
 
 /// Lines that a [`crate::TraceReader`] is given with rising numbers are read just as the whole
 /// input that has these lines at their numbers and a remark at each number between: both give the
-/// same trace, or refuse the same line for the same reason. So does a further line behind accepted
+/// same trace, or refuse the same line for the same reason. So does a further line after accepted
 /// ones.
 pub fn reads_as_the_input()
     ensures whole { ReadsAsTheInput }

@@ -1,5 +1,9 @@
 //! Traces: the configuration of a partition, and the lines that its processors run, as they are
 //! read from the bytes of an input.
+//!
+//! Main contracts: `parse` is the accepted trace, or the first refused line with its reason
+//! (`trace_of`); `TraceReader` reads lines with their numbers, as the whole input is read
+//! (`reads_as_the_input`).
 #![tactic(auto)]
 
 mod acts;

@@ -1,3 +1,5 @@
+//! An input cut into lines, and a line into words: LF, one CR before it, tabs and spaces, and
+//! remarks.
 ghost use Rattle.std.specs.Prelude.{◌≡◌, ◌≤◌, true, ◌∷◌, ◌++◌, length, take, vec_len, OnOk, OnErr, MatchOption};
 ghost use Rattle.std.specs.List.{slice_split, list_all, position_or_len};
 ghost use Rattle.trace_read.specs.TextLines.{is_lf, is_printable, raw_lines, without_cr, words_of, is_remark, texts};
@@ -64,8 +66,8 @@ pub fn is_text(line: &[u8]) -> bool
     text
 }
 
-/// Puts the words of a line of text into a list, in place of those that it has. Where there is no
-/// memory for all of them, the list has the first.
+/// Replaces the words in a list by those of a line of text. Where there is no memory for all of
+/// them, the list has the first.
 pub fn read_words<'a>(words: &mut Vec<&'a [u8]>, line: &'a [u8]) -> Result<(), AllocError>
     requires { list_all is_printable line.now ≡ true }
     ensures ok { OnOk result (texts words.new.items ≡ words_of line.now) }

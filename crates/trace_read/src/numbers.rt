@@ -1,3 +1,4 @@
+//! Numbers of 64 bits, written as 1 to 20 decimal digits or as `0x` and 1 to 16 hexadecimal digits.
 ghost use Rattle.std.specs.Prelude.{◌≡◌};
 ghost use Rattle.std.specs.Char.{digit_value};
 ghost use Rattle.trace_read.specs.Numbers.{number_of, digits_number, has_hex_prefix};
@@ -69,7 +70,7 @@ fn is_hex(word: &[u8]) -> bool
     word.len() > 1 && word[0] == b'0' && (word[1] == b'x' || word[1] == b'X')
 }
 
-/// The number that a word writes, in decimal or, behind `0x`, in hexadecimal.
+/// The number that a word writes, in decimal or, after `0x`, in hexadecimal.
 #[tactic(auto, unfolding(crate::specs::Numbers::number_of))]
 pub fn number(word: &[u8]) -> Option<u64>
     ensures { result ≡ number_of word.now }

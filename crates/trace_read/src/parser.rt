@@ -1,3 +1,5 @@
+//! A whole input read as one trace, within the limits of bytes and lines, up to its first refused
+//! line.
 ghost use Rattle.std.specs.Prelude.{◌≡◌, IfOk};
 ghost use Rattle.trace_read.specs.Grammar.{trace_of};
 ghost use Rattle.trace_read.specs.Read.{IsParsed, error_of};

@@ -1,3 +1,4 @@
+//! A pool of page table memory, its base and order read from the second and third word of a line.
 ghost use Rattle.std.specs.Prelude.{◌≡◌, Ok, Err, MatchResult};
 ghost use Rattle.trace_read.specs.Settings as setting;
 ghost use Rattle.trace_read.specs.TextLines.{texts};

@@ -1,3 +1,5 @@
+//! The state machine of a trace's lines: a line, given as words, is taken in its place, or refused
+//! with its reason.
 ghost use Rattle.std.specs.Prelude.{◌≡◌, ◌<◌, ◌≤◌, ◌^◌, true, false, length};
 ghost use Rattle.pool_range.specs.Ranges.{IsPoolRange};
 ghost use Rattle.trace_read.specs.Acts.{read_act, dump_act};
@@ -54,7 +56,7 @@ impl Model for Reader {
 }
 
 impl Reader {
-    /// Before the first line, where this pool stands.
+    /// Before the first line, with this pool.
     pub fn new(alloc: Global, pool_base: u64, pool_order: u8) -> Self
         requires { IsPoolRange pool_base pool_order }
         ensures { result ≡ reading_beside pool_base pool_order }

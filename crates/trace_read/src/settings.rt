@@ -1,3 +1,5 @@
+//! The configuration while it is read: each kind of line tests its words against the limits and the
+//! earlier lines.
 ghost use Rattle.std.specs.Prelude.{◌≡◌, ◌<◌, ◌≤◌, ◌++◌, [], ◌∷◌, false, length, IfOk, OnOk};
 ghost use Rattle.trace_read.specs.Configuration.{AreOpeningEntries, IsTraceOrder, greatest_trace_order};
 ghost use Rattle.trace_read.specs.Entries.{entry_named, with_entry};
@@ -75,7 +77,7 @@ impl Model for Settings {
 }
 
 impl Settings {
-    /// The settings of a trace without configuration lines, where this pool stands.
+    /// The settings of a trace without configuration lines, with this pool.
     pub fn new(alloc: Global, pool_base: u64, pool_order: u8) -> Self
         requires { IsPoolRange pool_base pool_order }
         ensures { result ≡ settings_beside pool_base pool_order }

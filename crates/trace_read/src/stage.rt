@@ -1,3 +1,5 @@
+//! The order of a trace's lines: `order`, `limit`, `cpus`, `pool`, grants, entries, windows,
+//! `begin`, and then run lines.
 ghost use Rattle.std.specs.Prelude.{◌≡◌};
 ghost use Rattle.trace_read.specs.Places.{is_running, comes_at};
 

@@ -1,3 +1,4 @@
+//! A refusal or want of memory, as the one error of the functions that read a line.
 use crate::why::Why;
 use std::alloc::AllocError;
 

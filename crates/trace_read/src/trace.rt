@@ -1,3 +1,4 @@
+//! The result of reading: a configuration and run lines, whose types keep the limits of a trace.
 use crate::config::Config;
 use std::marker::Model;
 use trace_line::TraceLines;
@@ -25,7 +26,7 @@ impl Model for Trace {
 impl Trace {
     ghost use Rattle.trace_read.specs.Trace.{IsAccepted};
 
-    /// Tells what each trace has, and does nothing else.
+    /// States what each trace has, and does nothing else.
     pub fn keeps_limits(&self)
         ensures { IsAccepted self.now }
     {

@@ -1,3 +1,5 @@
+//! The public reader of traces, line by line, which tests a line's bytes and cuts it into words;
+//! and the pool that a trace has by default.
 ghost use Rattle.std.specs.Prelude.{◌≡◌, ◌<◌, ◌≤◌, ◌^◌, IfOk, length};
 ghost use Rattle.pool_range.specs.Ranges.{IsPoolRange};
 ghost use Rattle.trace_read.specs.Grammar.{reading_beside, after_text, after_numbered};
@@ -44,7 +46,7 @@ impl<'a> Model for TraceReader<'a> {
 }
 
 impl<'a> TraceReader<'a> {
-    /// Before the first line. The pool of `2^pool_order` bytes from `pool_base` stands until a line
+    /// Before the first line. The pool has `2^pool_order` bytes from `pool_base`, until a line
     /// names another. It takes no memory; what lines give is kept in `alloc`.
     pub fn new(alloc: Global, pool_base: u64, pool_order: u8) -> Self
         requires { IsPoolRange pool_base pool_order }

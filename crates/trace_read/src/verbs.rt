@@ -1,3 +1,5 @@
+//! The verbs of a processor's line with their counts of words: hypervisor calls by name or number,
+//! accesses, segments and masks.
 ghost use Rattle.std.specs.Prelude.{◌≡◌, IfSome};
 ghost use Rattle.trace_read.specs.Forms.{call_named, other_verb, verb_of, IsNamedRow, IsNamedVerb};
 ghost use Rattle.trace_read.specs.Acts.{takes};
@@ -7,7 +9,7 @@ use authority_mask::MaskName;
 use papr_codes::Hcall;
 use storage_prot::Want;
 
-/// What a processor does, as the word behind it says.
+/// What a processor does, as the word after it says.
 #[derive(Clone, Copy)]
 pub enum Verb {
     /// A hypervisor call by its name, and how many arguments it has.

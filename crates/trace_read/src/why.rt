@@ -1,3 +1,4 @@
+//! Refusals of a line, each with the word that is written for it, and those of grants among them.
 ghost use Rattle.std.specs.Prelude.{◌≡◌};
 ghost use Rattle.trace_read.specs.Whys.{why_word, why_of_grant};
 
@@ -16,7 +17,7 @@ pub enum Why {
     Lpar,
     /// The line begins with no word of any form.
     Word,
-    /// The line may not stand here.
+    /// The line may not come at this place.
     Place,
     /// There are too few or too many words.
     Count,
@@ -44,7 +45,7 @@ pub enum Why {
     Overlap,
     /// The grant meets the pool of page tables.
     Tables,
-    /// The words of `entry` name no entry that may stand in the opening table behind those before.
+    /// The words of `entry` name no entry that the opening table can have after the earlier ones.
     Entry,
     /// The numbers of `window` make no window, its number is an earlier window's, or there are four
     /// windows already.

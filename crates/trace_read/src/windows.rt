@@ -1,3 +1,5 @@
+//! The list of DMA windows that a trace configures, with the tests for room and for a number that
+//! is taken.
 ghost use Rattle.std.specs.Prelude.{◌≡◌, ◌<◌, ◌++◌, [], ◌∷◌, false, length, nat_lt};
 ghost use Rattle.bus_window.specs.Windows.{IsWindow};
 ghost use Rattle.trace_read.specs.Configuration.{AreWindows};

@@ -1,4 +1,4 @@
--- Run lines and their replies.
+-- Replies to run lines: one for each line, of the line's kind, and the receipts that each has.
 use Rattle.std.specs.Prelude.{Bool, true, false, List, [], ◌∷◌}
 use Rattle.entry_model.specs.declared.receipt.Receipt.{Receipt}
 use Rattle.trace_line.specs.declared.act.Act.{Act}

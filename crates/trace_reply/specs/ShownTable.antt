@@ -1,4 +1,4 @@
--- Tables as a dump shows them.
+-- A page table as a dump shows it: its number, order and place, and its valid entries.
 use Rattle.std.specs.Prelude.{ℕ, ◌+◌, List, [], ◌∷◌, if◌then◌else◌}
 use Rattle.entry_model.specs.State.{State}
 use Rattle.trace_reply.specs.declared.shown.Shown.{Shown}

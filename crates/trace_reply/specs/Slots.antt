@@ -1,4 +1,4 @@
--- Slots that the replies to many lines take in turn.
+-- The reply that is in a slot, which the replies to many lines take in turn.
 use Rattle.std.specs.Prelude.{List}
 use Rattle.entry_model.specs.declared.receipt.Receipt.{Receipt}
 use Rattle.entry_model.specs.Replies.{reply_with, access_reply_with, device_reply_with}

@@ -4,6 +4,9 @@
 //! A hypervisor call is answered as LoPAR says, by a return code and the words of registers 4 to
 //! 11; an access, of a processor or of a device, by the machine address that it reaches, or by the
 //! cause for which it doesn't. All three carry the receipts of their operations on entries.
+//!
+//! Main contracts: `Replies::push` appends, and never fails within the capacity that was reserved;
+//! `Shown::of_table`.
 #![tactic(auto)]
 
 mod replies;

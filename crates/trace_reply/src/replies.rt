@@ -1,3 +1,4 @@
+//! A list of replies whose room can be made beforehand: a reply appended within it takes no memory.
 ghost use Rattle.std.specs.Prelude.{◌≡◌, ◌≤◌, ◌-◌, ◌++◌, max, [], ◌∷◌, OnOk, OnErr, IsOk};
 
 use crate::reply::Reply;

@@ -1,3 +1,4 @@
+//! The six kinds of replies, by what the run line asks for.
 use crate::shown::Shown;
 use entry_model::{AccessReply, DeviceReply, HReply};
 

@@ -1,3 +1,5 @@
+//! What a dump shows of a page table: its number, order and place, and each valid entry with its
+//! index.
 ghost use Rattle.std.specs.Prelude.{◌≡◌, ◌≤◌, ◌^◌, ◌++◌, [], ◌∷◌, length, IfOk, OnOk, OnErr};
 ghost use Rattle.trace_reply.specs.ShownTable.{valid_from, table_shown};
 ghost use Rattle.hpte_fields.specs.TableSize.{entry_count, greatest_order};

@@ -1,3 +1,5 @@
+//! A reply in two parts, its end and its receipts, so that the room for receipts serves many
+//! replies.
 ghost use Rattle.std.specs.Prelude.{◌≡◌, true};
 ghost use Rattle.trace_reply.specs.Slots.{reply_in};
 
@@ -7,7 +9,7 @@ use entry_model::{
     AccessEnd, AccessReply, DeviceOutcome, DeviceReply, HReply, Receipts, Registers,
 };
 
-/// What a reply tells beside its receipts.
+/// What a reply has without its receipts.
 #[derive(Drop)]
 pub enum ReplyEnd {
     /// Of a hypervisor call.

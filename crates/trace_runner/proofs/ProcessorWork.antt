@@ -265,7 +265,7 @@ module _ {L : Type 0} (keeps : Keeping L) (set : StoreContext) (table : LockTabl
             (works_below set (opening_fronts a) (view_of p).fronts w.before.value
             (lines_of_processor n ts) works) gone)
 
-  -- ---- cached lines
+  -- ---- cached translations
   part_holds :
       (b : List State) (n : ℕ) (w : Worker L)
       → DoneWith keeps set table lines n (picks n) w

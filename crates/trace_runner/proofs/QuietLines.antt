@@ -31,7 +31,7 @@ line_size w l =
     (λ q. quiet_size w l.act)
     (λ q. processors_size w.processors (record { line = l; reply = x.0 }))
 
--- The windows behind a line on the page table.
+-- The windows after a line on the page table.
 pub line_beside :
     (w : Store) (l : TraceLine) (vs : List WindowState)
     → map (as_store (run_on w l).1) vs ≡ map (as_store w) vs

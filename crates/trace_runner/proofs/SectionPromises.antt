@@ -33,7 +33,7 @@ use Rattle.trace_runner.proofs.ProcessorWork.{DoneWith, IsPart, done_with, all_h
 use Rattle.trace_runner.proofs.SectionWork.{own_parts, listed_inside, after_parts, ran_apart}
 use Rattle.trace_runner.proofs.NewWorkers.{holds_inside}
 
--- ---- the list behind a slice that was written
+-- ---- a list whose first part was overwritten
 pub refilled :
     {A : Type 0} (n : ℕ) (new old : List A)
     → n ≡ length old

@@ -76,7 +76,7 @@ pub record Quiets (ws : List BusWindow) (t : RepliedLine) (y z : Store) : Type 0
 abbrev RunsFrom : List BusWindow → List RepliedLine → List QuietPart → Store → Type 0
 RunsFrom ws ts qs x = RunsParallel (is_on ws x.window) x ts qs
 
--- The section, the quiet line behind it, and the rest.
+-- The section, the quiet line after it, and the rest.
 store_goes :
     (ws : List BusWindow) (ts : List RepliedLine) (t : RepliedLine)
     (c : List RepliedLine × List QuietPart) (x y z : Store)

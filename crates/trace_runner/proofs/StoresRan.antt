@@ -51,7 +51,7 @@ apart_on s ts b h = record {
   quiet = tt;
 }
 
--- The store behind a section, with such states and processors.
+-- The store after a section, with such states and processors.
 abbrev ended : Store → List State → List Processor → Store
 ended x states processors = record x {
   memory = with_states x.memory states;

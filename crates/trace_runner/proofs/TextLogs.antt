@@ -60,7 +60,7 @@ keeps_more bytes more ends next start end ls rs l r put utf8 at pushed h = recor
 }
 
 -- ---- the first one
--- The texts stand behind the front.
+-- The texts come after the front.
 pub behind :
     (front bytes ends : List ℕ) (ls : List TraceLine) (rs : List Reply)
     → EndsBehind front bytes ends ls rs
@@ -74,7 +74,7 @@ behind front bytes [] (l ∷ ls) rs h = absurd h
 behind front bytes (end ∷ ends) [] rs h = absurd h
 behind front bytes (end ∷ ends) (l ∷ ls) [] h = absurd h
 
--- Where the first of some replies stands, and what is kept behind it.
+-- Where the first of some replies is, and what is kept after it.
 pub record FirstText (bytes others : List ℕ) (start end : ℕ) (l : TraceLine) (r : Reply)
     (ls : List TraceLine) (rs : List Reply) :
     Type 0 where

@@ -109,11 +109,11 @@ Told ws store cpu ts rest rs all =
     ++ lines_with_replies (lines_of_cpu cpu (lines_on_store ws store rest)) rs
     ≡ all
 
--- What is left of each processor's replies behind the line.
+-- What is left of each processor's replies after the line.
 abbrev pub rest_after : ℕ → List Reply → (ℕ → List Reply) → ℕ → List Reply
 rest_after at ss rs cpu = cond (eqb at cpu) ss (rs cpu)
 
--- What is left behind the line of each processor's replies on each store.
+-- What is left after the line of each processor's replies on each store.
 abbrev pub stores_after : ℕ → ℕ → List Reply → (ℕ → ℕ → List Reply) → ℕ → ℕ → List Reply
 stores_after at cpu ss rs store = cond (eqb at store) (rest_after cpu ss (rs store)) (rs store)
 

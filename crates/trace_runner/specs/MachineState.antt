@@ -11,7 +11,8 @@ use Rattle.trace_reply.specs.declared.reply.Reply.{Reply}
 use Rattle.run_model.specs.SerialRun.{run_line, replies_from, stores_after, first_store}
 use Rattle.run_model.specs.AllStores.{windows_in}
 
--- The table has its states, all cached lines hold of them, and the numbers of the windows differ.
+-- The table has its states, all cached translations hold of them, and the numbers of the windows
+-- differ.
 pub record IsMachine
     (partition : PartitionState)
     (processors : List Processor)
@@ -32,10 +33,10 @@ pub record RunsLine (s : AllStores) (l : TraceLine) (r : Reply) (later : AllStor
 abbrev pub replies_of : AllStores → List TraceLine → List Reply
 replies_of s lines = replies_from (windows_in s.windows) (all_stores s) lines
 
--- The stores behind them.
+-- The stores after them.
 abbrev pub stores_end : AllStores → List TraceLine → List Store
 stores_end s lines = stores_after (windows_in s.windows) (all_stores s) lines
 
--- The page table behind them.
+-- The page table after them.
 abbrev pub table_end : AllStores → List TraceLine → Store
 table_end s lines = first_store s.table (stores_end s lines)

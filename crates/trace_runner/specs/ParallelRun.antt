@@ -1,4 +1,4 @@
--- What a parallel run of a trace gives.
+-- What a parallel run of a trace gives: the replies of a good run, or their text.
 use Rattle.std.specs.Prelude.{◌≡◌, ℕ, List}
 use Rattle.trace_read.specs.Trace.{AcceptedTrace}
 use Rattle.trace_reply.specs.declared.reply.Reply.{Reply}

@@ -90,7 +90,7 @@ pub record IsJoinOf
 
 -- ---- work
 -- The workers have run their lines, and the table closed on these states. Their processors and logs
--- stand behind those that were there.
+-- come after those that were there.
 pub record RanTogether
     {L : Type 0}
     (keeps : Keeping L)

@@ -1,4 +1,4 @@
--- The sections of a run on all stores, and the run that they are.
+-- The sections of a parallel run on all stores: their replies, and what they add to an output.
 use Rattle.std.specs.Prelude.{◌≡◌, ℕ, ◌+◌, ◌≤◌, List, [], ◌∷◌, ◌++◌, length}
 use Rattle.std.specs.List.{AllByRecursion}
 use Rattle.bus_window.specs.Windows.{BusWindow}
@@ -46,13 +46,13 @@ Runs s ts =
     (λ (x : Store). RunsParallel (is_on (windows_in s.windows) x.window) x c.0 c.1)
     (all_stores s)
 
--- These replies to lines were put behind those of an output.
+-- These replies to lines were put after those of an output.
 abbrev pub HasGrown :
     {O : Type 0} → Keeping O → List TraceLine → List Reply → O → O → Type 0
 HasGrown has lines news old new =
     (ks : List TraceLine) (qs : List Reply) → has old ks qs → has new (ks ++ lines) (qs ++ news)
 
--- The replies that were picked were put behind those of an output, in file order.
+-- The replies that were picked were put after those of an output, in file order.
 pub record AddsReplies
     {O : Type 0}
     (has : Keeping O)
@@ -66,7 +66,7 @@ pub record AddsReplies
     pub grown : HasGrown has lines news old new
     pub merged : IsMerged ws lines picks news
 
--- The section's replies were put behind those of an output.
+-- The section's replies were put after those of an output.
 pub record RunsSection
     {O : Type 0}
     (has : Keeping O)
@@ -80,7 +80,7 @@ pub record RunsSection
     pub grown : HasGrown has lines news old new
     pub sectioned : Sectioned s lines news later
 
--- A section ran, and behind it the quiet line that ends it; their replies were put behind those of
+-- A section ran, and after it the quiet line that ends it; their replies were put after those of
 -- an output.
 pub record RunsToQuiet
     {O : Type 0}

@@ -9,8 +9,8 @@ use Rattle.reply_text.specs.Text.{reply_text, text_from}
 abbrev pub text_room : ℕ → ℕ → ℕ → ℕ → ℕ
 text_room capacity len most ends = min ((capacity - len) / 1024) (most - ends)
 
--- Behind this front stand just the texts of these replies, and each ends where it is said to. The
--- text may be cut at each end.
+-- After this front there are just the texts of these replies, and each ends where it is said to.
+-- The text may be cut at each end.
 abbrev pub EndsBehind :
     List ℕ → List ℕ → List ℕ → List TraceLine → List Reply → Type 0
 EndsBehind front bytes [] [] [] = bytes ≡ front

@@ -119,7 +119,7 @@ pub record HasStart
     pub none : keeps w.log [] []
     pub room : length (lines_of_cpu cpu lines) ≤ room_in w.log
 
--- A worker before the section: it has a pass exactly where it has a line.
+-- A worker before the section: it has a pass exactly if it has a line.
 abbrev pub IsReady :
     {L : Type 0}
     → Keeping L
@@ -144,7 +144,7 @@ pub record HasEnd
     pub kept : keeps w.log (lines_of_cpu cpu lines) replies
     pub run : IsSomeAnd w.pass (HasRun context table cpu lines replies w)
 
--- A worker behind the section.
+-- A worker after the section.
 abbrev pub IsDone :
     {L : Type 0}
     → Keeping L → StoreContext → LockTable → ℕ → List TraceLine → Worker L → Type 0

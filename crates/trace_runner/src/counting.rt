@@ -1,3 +1,4 @@
+//! The serial run for a summary: each reply is counted at once, and none is kept.
 ghost use Rattle.std.specs.Prelude.{◌≡◌, ◌≤◌, ◌<◌, length, IfOk};
 ghost use Rattle.run_model.specs.QuietLines.{shown_of};
 ghost use Rattle.run_model.specs.SerialRun.{serial_replies, table_after};
@@ -24,7 +25,7 @@ pub struct CountedRun {
     pub table: Shown,
 }
 
-/// Counts the replies to lines, each as soon as its line has run, and shows the table behind them.
+/// Counts the replies to lines, each as soon as its line has run, and shows the table after them.
 fn count_lines(
     alloc: Global,
     machine: &mut Machine,

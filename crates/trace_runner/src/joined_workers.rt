@@ -1,4 +1,4 @@
-//! The workers behind a section: the lines on a store between two quiet ones.
+//! The workers after a section: the lines on a store between two quiet ones.
 ghost use Rattle.std.specs.Prelude.{◌≡◌, ◌+◌, ◌<◌, ◌≤◌, ◌++◌, length, map, vec_capacity, IfSome};
 ghost use Rattle.std.specs.List.{AllByRecursion};
 ghost use Rattle.entry_lock.specs.PassOfTable.{IsOf};

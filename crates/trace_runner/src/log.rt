@@ -18,7 +18,7 @@ pub trait ReplyLog {
     /// How many further replies it has room for.
     ghost room: { Self → ℕ };
 
-    /// Keeps the reply in the slot behind the others. It can't fail. What is in the slot then
+    /// Keeps the reply that is in the slot as the last one. It can't fail. What is in the slot then
     /// is left open.
     fn keep(&mut self, line: &TraceLine, slot: &mut ReplySlot)
         requires room { 0 < room self.old }
@@ -47,7 +47,7 @@ pub trait RunLog: ReplyLog + Send + Drop {
     fn output(alloc: Global, lines: usize) -> Result<Self::Output, AllocError>
         ensures { IfOk result (λ output. has output [] []) };
 
-    /// Puts the reply in the slot behind those of the output.
+    /// Puts the reply that is in the slot at the end of the output.
     fn put(
         output: &mut Self::Output,
         line: &TraceLine,
@@ -59,7 +59,7 @@ pub trait RunLog: ReplyLog + Send + Drop {
             → has output.old ls rs
             → has output.new (ls ++ line.now ∷ []) (rs ++ reply_in slot.old ∷ [])) };
 
-    /// Moves the first reply behind those of the output.
+    /// Moves the first reply to the end of the output.
     fn move_first(&mut self, output: &mut Self::Output) -> Result<(), AllocError>
         requires some { (l : LineOf)
             × (r : Reply)

@@ -1,3 +1,5 @@
+//! What a serial run carries from line to line: the partition, its processors and DMA windows, and
+//! how a line changes them.
 ghost use Rattle.std.specs.Prelude.{◌≡◌, ◌<◌, ◌≤◌, ◌+◌, ◌-◌, ◌^◌, length, true, false, Some, None, IfOk, OnOk};
 ghost use Rattle.trace_line.specs.Lines.{is_quiet};
 ghost use Rattle.run_model.specs.QuietLines.{run_quiet_line, run_resize, shown_of};

@@ -11,7 +11,7 @@ use std::alloc::AllocError;
 use trace_line::TraceLine;
 
 /// Puts the replies to these lines, of which the logs of each store have those to the lines on it,
-/// in file order behind those of the output. The page table's logs are the first.
+/// at the end of the output, in file order. The page table's logs are the first.
 pub fn merge_replies<L: RunLog>(
     windows: &[WindowEntries],
     lines: &[TraceLine],

@@ -1,3 +1,5 @@
+//! The beginning of every serial run: the machine of a trace's configuration, and what holds of the
+//! replies to come.
 ghost use Rattle.std.specs.Prelude.{◌≡◌, ◌<◌, length, IfOk};
 ghost use Rattle.trace_line.specs.Lines.{AreOnProcessors};
 ghost use Rattle.run_model.specs.AllStores.{opening_all};

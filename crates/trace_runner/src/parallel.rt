@@ -28,7 +28,7 @@ use trace_read::Trace;
 use trace_reply::{Replies, ReplySlot};
 
 /// Runs the lines of a section, on each store in a thread for each processor that has some there,
-/// and puts the replies behind those of the output.
+/// and puts the replies at the end of the output.
 fn section<R: Threads + Wait + Sync, G: Gate + Sync, L: RunLog>(
     rt: &R,
     alloc: Global,
@@ -48,7 +48,7 @@ fn section<R: Threads + Wait + Sync, G: Gate + Sync, L: RunLog>(
     Ok(later)
 }
 
-/// Runs a section and the quiet line that ends it, and puts the replies behind those of the output.
+/// Runs a section and the quiet line that ends it, and puts the replies at the end of the output.
 fn section_to_quiet<R: Threads + Wait + Sync, G: Gate + Sync, L: RunLog>(
     rt: &R,
     alloc: Global,

@@ -18,7 +18,7 @@ use std::thread::Threads;
 use trace_line::TraceLine;
 use vcpu::Cpu;
 
-/// A store behind the lines of a section: the states of its entries, the processors, and what they
+/// A store after the lines of a section: the states of its entries, the processors, and what they
 /// keep of the replies. Where the store has no line there, it has no log.
 #[derive(Drop)]
 pub struct StoreRun<L> {

@@ -13,7 +13,7 @@ use trace_reply::ReplySlot;
 /// Room in the text of a run for the line of a common reply. Longer texts make theirs as they grow.
 const COMMON_ROOM: usize = 128;
 
-/// The text of the replies, one behind the other, and where the text of each ends. That of the
+/// The text of the replies, one after the other, and where the text of each ends. That of the
 /// first one begins at `start`.
 #[derive(Drop)]
 pub struct ReplyText {

@@ -41,7 +41,7 @@ pub struct Worker<L> {
     pub log: L,
 }
 
-/// Runs a line by this pass, and gives the pass behind it. The reply is put into the slot.
+/// Runs a line by this pass, and gives the pass after it. The reply is put into the slot.
 fn answer<R: Wait, G: Gate>(
     rt: &R,
     table: &LockTable,

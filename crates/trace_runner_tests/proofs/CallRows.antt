@@ -93,7 +93,7 @@ unfolding digits exact text_from head_text code_text run_on line_result hcall_pl
     row_says key_rows outcome_of
 one_is_tried = refl
 
--- The last page of main storage and the one behind it, a device cached and not, and words that are
+-- The last page of main storage and the one after it, a device cached and not, and words that are
 -- stored as others.
 placed : List TraceLine
 placed =
@@ -177,7 +177,7 @@ unfolding digits protected text_from head_text code_text run_on line_result hcal
     walk_calls group_of tag_of has_base permission rows row_says key_rows outcome_of
 by_name_and_number = refl
 
--- Removed, not found, ill-formed, and the pair behind it left as it is.
+-- Removed, not found, ill-formed, and the pair after it left as it is.
 bulk : List TraceLine
 bulk =
     calls 4 0x08 (0 ∷ 0 ∷ 0x1001 ∷ 0x3192 ∷ [])

@@ -44,7 +44,7 @@ abbrev dumps : ℕ → TraceLine
 dumps n = record { number = n; cpu = 0; act = Dump }
 
 -- ---- dumps
--- The valid entries alone, with R and C in doubleword 1; and the line behind a dump goes on where
+-- The valid entries alone, with R and C in doubleword 1; and the line after a dump goes on where
 -- the one before it ended.
 shown : List TraceLine
 shown =
@@ -120,7 +120,7 @@ resizes_refused = refl
 
 -- ---- a resize
 -- A bolted entry of the page of VSID 0x801 and index 1, whose hash is 0x800; a bolted one that
--- stands in a group of none of its pages; and one that isn't bolted. After the commit no table is
+-- is in a group of none of its pages; and one that isn't bolted. After the commit no table is
 -- pending, and there are 0x8000 entries.
 resized : List TraceLine
 resized =

@@ -66,8 +66,8 @@ unfolding digits stored text_from head_text code_text run_on line_result hcall_p
 a_store_shows = refl
 
 -- ---- authority masks
--- The entry has key 1. AMR refuses its stores and allows its loads, by the cached line too; IAMR
--- refuses its fetches; and H_PROTECT gives it key 0.
+-- The entry has key 1. AMR refuses its stores and allows its loads, by the cached translation too;
+-- IAMR refuses its fetches; and H_PROTECT gives it key 0.
 masked : List TraceLine
 masked =
     mte 4 0x8000000 0x1000
@@ -100,7 +100,7 @@ unfolding digits masked text_from head_text code_text run_on line_result hcall_p
 masks_refuse = refl
 
 -- ---- cached translations
--- A second processor protects the entry: the first one's cached line is gone.
+-- A second processor protects the entry: the first one's cached translation is gone.
 shared : List TraceLine
 shared =
     mte 5 0x8000000 0x1000

@@ -1,3 +1,5 @@
+//! Serial runs of short traces, with their whole texts: cached translations, resizes, and the
+//! largest table.
 mod parallel;
 
 use entry_model::EntryState;

@@ -1,4 +1,4 @@
--- An access by a cached line: its one receipt makes a reply by Hit.
+-- An access by a cached translation: its one receipt makes a reply by Hit.
 use Rattle.std.specs.Prelude.{MatchBool}
 use Rattle.std.proofs.Common.{◌≡◌, ◌+◌, Bool, true, false, not, List, [], ◌∷◌, Option, Some, refl, sym, ap, ◌∙◌}
 use Rattle.power_addr.specs.Pages.{VirtualPage, tag_of}

@@ -1,4 +1,4 @@
--- The reply to an access by a walk tells of an entry that translates its page.
+-- The reply to an access by a walk is about an entry that translates its page.
 use Rattle.std.proofs.Common.{Option, None, Some, refl}
 use Rattle.power_addr.specs.Pages.{VirtualPage}
 use Rattle.slb_model.specs.declared.segment.Segment.{Segment}

@@ -9,6 +9,6 @@ use Rattle.vcpu.specs.contracts.cpu.Cpu.{the_row as cpu_row}
 abbrev pub with_masks : Processor → Masks → Processor
 with_masks p masks = record p { masks = masks }
 
--- The processor ends with the masks that were left behind the reference.
+-- The processor ends with the masks that were left after the reference.
 abbrev pub LendsMasks : MutBor Processor → MutBor Masks → Fml
 LendsMasks p masks = Lends cpu_row masks_row p masks (with_masks p.now)

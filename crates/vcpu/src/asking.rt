@@ -1,3 +1,5 @@
+//! An access as one operation on an entry, by the segment's key and no-execute bit, the request and
+//! the authority masks.
 ghost use Rattle.std.specs.Prelude.{◌≡◌};
 ghost use Rattle.entry_model.specs.Receipt.{IsNormal};
 ghost use Rattle.hpt_walk.specs.Access.{key_for, mode_for};
@@ -14,8 +16,8 @@ pub fn key(segment: &Segment, user: bool) -> bool
     if user { segment.kp } else { segment.ks }
 }
 
-/// The access as an operation on an entry of the page, which stands in the page's secondary group
-/// where `secondary` says so.
+/// The access as an operation on an entry of the page, which is in the page's secondary group where
+/// `secondary` says so.
 pub fn operation(segment: &Segment, request: &Request, secondary: bool) -> Op
     ensures op { result
         ≡ table.access_op segment.now.page (mode_for segment.now request.now) secondary }

@@ -1,3 +1,5 @@
+//! Hits: an access by a cached translation is one operation on its entry, made only while the entry
+//! has the stamp that was cached.
 ghost use Rattle.std.specs.Prelude.{◌≡◌, [], Some, IfSome, IfNone};
 ghost use Rattle.entry_model.specs.declared.access_reply.By.TheVariants.{Hit};
 ghost use Rattle.entry_model.specs.Replies.{access_reply_with};
@@ -12,9 +14,9 @@ use hpt_walk::Request;
 use hpte_fields::secondary;
 use slb_model::Segment;
 
-/// The access by the line of its page that is cached, with its receipt in place of what is in
-/// `receipts`. `None` where no line is, or where the line's entry has left the line's stamp; then
-/// nothing was made.
+/// The access by the line of its page that is cached. Its receipt replaces those in `receipts`.
+/// `None` where no line is, or where the line's entry has left the line's stamp; then nothing was
+/// made.
 pub fn by_cache<T: EntryStore>(
     store: &mut T,
     grants: &Grants,

@@ -1,3 +1,5 @@
+//! Misses: an access by a walk of the page's two groups, and what the cache gets of the entry found
+//! where the access lands.
 ghost use Rattle.std.specs.Prelude.{◌≡◌, Some, IfSome};
 ghost use Rattle.entry_model.specs.declared.access_reply.By.TheVariants.{Walk};
 ghost use Rattle.hpt_walk.specs.Translations.{TranslatesItsPage};
@@ -22,8 +24,7 @@ pub struct Walked {
     pub line: Option<Line>,
 }
 
-/// The access by a walk of the page's two groups, with its receipts in place of what is in
-/// `receipts`.
+/// The access by a walk of the page's two groups. Its receipts replace those in `receipts`.
 #[tactic(auto, unfolding(hpt_walk::specs::Access::outcome_of))]
 pub fn by_walk<T: EntryStore>(
     store: &mut T,

@@ -1,3 +1,5 @@
+//! A processor's segments, authority masks and translation cache, and its accesses: each finds its
+//! segment first, and then uses the cache or a walk.
 ghost use Rattle.std.specs.Prelude.{◌≡◌, Some, None, IfSome, MatchResult, OnOk, OnErr};
 ghost use Rattle.slb_model.specs.Buffer.{no_slots, slots_after, segment_of};
 ghost use Rattle.slb_model.specs.Refusals.{mte_refusal};
@@ -151,7 +153,7 @@ impl Cpu {
         end.into_reply(receipts)
     }
 
-    /// Makes the access that `access` makes, with its receipts in place of what is in `receipts`.
+    /// Makes the access that `access` makes. Its receipts replace those in `receipts`.
     // Out of line: docs/PERFORMANCE.md says why.
     #[inline(never)]
     pub fn access_into<T: EntryStore>(

@@ -1,3 +1,5 @@
+//! The processors of a partition together: how they begin, and how a committed resize clears their
+//! caches.
 ghost use Rattle.std.specs.Prelude.{◌≡◌, map, replicate, IfOk};
 ghost use Rattle.tlb_model.specs.Processor.{new_processor, without_cache};
 

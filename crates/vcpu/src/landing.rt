@@ -1,3 +1,5 @@
+//! Where an access ends by the receipt of its page's entry: at a machine address, outside all
+//! grants, or refused by protection or by a mask.
 ghost use Rattle.std.specs.Prelude.{◌≡◌, Some};
 ghost use Rattle.frame_grants.specs.Grants.{machine_range};
 ghost use Rattle.hpt_walk.specs.Access.{landing_at};

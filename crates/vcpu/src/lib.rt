@@ -2,8 +2,11 @@
 //! accesses to memory.
 //!
 //! Power ISA Book III, address translation: an effective address lies in a segment, the segment's
-//! page is translated by a cached line or by a walk of the page table, and the entry found allows
-//! the access or denies it.
+//! page is translated by a cached translation or by a walk of the page table, and the entry found
+//! allows the access or denies it.
+//!
+//! Main contracts: `Cpu::access`: its receipts, its reply by a hit or a walk, and the cache after;
+//! `Cpu::after_access`: the cache after an access that was made elsewhere.
 #![tactic(auto)]
 
 mod asking;

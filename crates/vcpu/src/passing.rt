@@ -1,3 +1,5 @@
+//! How an access in a segment uses the translation cache: a hit if it can, else a walk, after which
+//! the cache has the translation that was found.
 ghost use Rattle.std.specs.Prelude.{◌≡◌, Some, None, IfSome};
 ghost use Rattle.tlb_model.specs.Cache.{AllCached, cached_line};
 ghost use Rattle.entry_model.specs.CachedLines.{AllLater};
@@ -18,7 +20,7 @@ use slb_model::Segment;
 use tlb_model::Tlb;
 
 /// The access in its segment: by the line of the page that is cached, or past it by a walk. Its
-/// receipts take the place of what is in `receipts`.
+/// receipts replace those in `receipts`.
 pub fn in_segment<T: EntryStore>(
     tlb: &mut Tlb,
     store: &mut T,
@@ -56,7 +58,7 @@ pub fn in_segment<T: EntryStore>(
     if let Some(end) = by_cache(store, grants, segment, request, &line, receipts) {
         return end;
     }
-    // The line goes before the walk: a line of an earlier state may not answer beside the new one.
+    // The line goes before the walk: a line of an earlier state may not answer next to the new one.
     tlb.drop_line(&segment.page);
     let Walked { end, line } = by_walk(store, grants, segment, request, receipts);
     refill(tlb, line);

@@ -1,3 +1,5 @@
+//! One processor at a smallest page table: hits, walks, translations pushed out of the cache, and
+//! refusals, each access with its outcome and its last receipt.
 ghost use Rattle.std.specs.Prelude.{◌≡◌, ◌<◌, ◌-◌, ◌^◌, IfOk};
 ghost use Rattle.hpte_fields.specs.TableSize.{entry_count};
 ghost use Rattle.tlb_model.specs.Cache.{AllCached, empty_cache};
@@ -26,7 +28,7 @@ const MEMORY: Grant = Grant {
     kind: Kind::Ram,
 };
 
-/// Of a store whose lines are seen, one operation beside the accesses.
+/// One operation by itself, on a store that has seen the lines that the processor has cached.
 fn apply_beside<T: EntryStore>(cpu: &Cpu, store: &mut T, entry: u32, op: Op) -> Answer
     requires seen { AllCached (T.seen store.old) cpu.now.cache }
     requires in_table { entry < entry_count (T.table_order store.old) }

@@ -1,3 +1,5 @@
+//! Virtual pages: their tags by the text of the Power ISA, parts that are out of range, and the
+//! page of an address.
 use power_addr::Page;
 use std::test::Fail;
 

@@ -1,3 +1,5 @@
+//! A processor's cached translations: the first of a full set gives way, other sets stay, and a
+//! removal makes room.
 use entry_model::Line;
 use power_addr::Page;
 use std::process::Abort;
@@ -35,7 +37,7 @@ fn filled(indices: [u64; 5]) -> Result<Tlb, Fail> {
     Ok(tlb)
 }
 
-/// The page of each index is translated by the entry beside it, or by none.
+/// The page of each index is translated by the entry given with it, or by none.
 fn check(rt: &impl Abort, tlb: &Tlb, found: &[(u64, Option<u32>)]) -> Result<(), Fail> {
     for (index, entry) in found {
         let wanted = match *entry {

@@ -1,3 +1,5 @@
+//! Hypervisor calls and return codes, with their numbers in LoPAR and Linux, and the flag bits that
+//! count.
 use papr_codes::{CallFlags, Hcall, Rc};
 
 /// The numbers, names and calls of LoPAR and of Linux's `hvcall.h`.

@@ -1,3 +1,5 @@
+//! Fields of an entry's doublewords, the protection that H_PROTECT gives, and the doublewords that
+//! H_ENTER stores.
 use hpte_fields::{
     bolted, frame, key, no_execute, normal, one_tb, pp, protected, secondary, tag_of, wimg,
 };

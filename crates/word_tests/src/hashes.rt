@@ -1,3 +1,5 @@
+//! The primary and the secondary group of a page, and the page that an entry translates, in worked
+//! rows.
 use hpt_hash::{groups, page_of};
 use power_addr::Page;
 use std::test::Fail;

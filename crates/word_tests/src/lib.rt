@@ -1,5 +1,5 @@
 //! Tests of the crates of words: [`page_sizes`], [`power_addr`], [`storage_prot`], [`papr_codes`],
-//! [`hpte_fields`], [`hpt_hash`], [`slb_model`] and [`tlb_model`]. They stand here since the gate
+//! [`hpte_fields`], [`hpt_hash`], [`slb_model`] and [`tlb_model`]. They are here since the gate
 //! proves a crate that has tests twice.
 #![tactic(auto)]
 

@@ -1,3 +1,5 @@
+//! Storage protection: what each value of the three bits allows under key 0 and key 1, and pages
+//! without execution.
 use storage_prot::{Want, allows};
 
 /// The three bits; whether a load, a store and a fetch may, with key 0 and with key 1.

@@ -1,3 +1,4 @@
+//! Segments of a processor: which words of an `slbmte` are refused, and which page an address has.
 use slb_model::{BadSlb, Slb};
 use std::test::Fail;
 

@@ -1,3 +1,4 @@
+//! The base and the actual page size that the doublewords of an entry encode, in worked rows.
 use page_sizes::{PageSize, decode};
 
 /// Doublewords of entries, and the binary logarithms of the base and the actual page size that

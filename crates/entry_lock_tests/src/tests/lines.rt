@@ -1,4 +1,4 @@
-//! Accesses by cached lines, through generic code over a store.
+//! Accesses by cached translations, through generic code over a store.
 
 ghost use Rattle.std.specs.Prelude.{◌≡◌, [], ◌∷◌, IfSome};
 ghost use Rattle.entry_model.specs.CachedLines.{ShowsLine, IsAccessOf};

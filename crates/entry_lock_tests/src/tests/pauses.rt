@@ -140,7 +140,8 @@ fn a_bit_raised_between_lock_and_shut_is_told(rt: HostRuntime) -> Result<(), Fai
 }
 
 /// Two readers and a writer: the second reader finds the entry taken, with the lock bit in the
-/// word; a load beside the first reader is told in its receipt, and an entry beside it isn't busy.
+/// word; the bits that a load and a store raise meanwhile are in the first reader's receipt, and
+/// the next entry isn't busy.
 #[test]
 fn two_readers_and_a_writer(rt: HostRuntime) -> Result<(), Fail> {
     let tries = [

@@ -1,4 +1,5 @@
-//! Shares of a table.
+//! The most passes of a table: 64 shares, which splits and joins move, and closing with all of
+//! them.
 
 use super::{ENTRY, access, open_table, page};
 use entry_lock::Closed;

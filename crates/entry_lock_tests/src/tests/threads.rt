@@ -158,7 +158,7 @@ fn note_changes(states: &mut Vec<EntryState>, made: &[Receipt]) {
     }
 }
 
-/// How many receipts don't stand on the state of their stamp.
+/// How many receipts have another state before than the one of its stamp.
 fn out_of_chain(states: &Vec<EntryState>, made: &[Receipt]) -> u32 {
     let mut count = 0u32;
     for receipt in made {
@@ -169,7 +169,7 @@ fn out_of_chain(states: &Vec<EntryState>, made: &[Receipt]) -> u32 {
     count
 }
 
-/// Each receipt stands on the state that the entry had at its stamp, from the opening to the
+/// Each receipt's state before is the one that the entry had at that stamp, from the opening to the
 /// closing state.
 #[test]
 fn two_threads_of_calls(rt: HostRuntime) -> Result<(), Fail> {
@@ -204,7 +204,7 @@ fn note_stores(stored: &mut Vec<bool>, made: &[Receipt]) {
     }
 }
 
-/// How many clearings don't have C exactly where a store was made at their stamp.
+/// How many clearings found C set without a store at their stamp, or clear after one.
 fn lost_stores(stored: &Vec<bool>, made: &[Receipt]) -> u32 {
     let mut count = 0u32;
     for receipt in made {
@@ -215,8 +215,8 @@ fn lost_stores(stored: &Vec<bool>, made: &[Receipt]) -> u32 {
     count
 }
 
-/// A clearing of C has C before exactly where a store was made since the clearing before it: a
-/// store beside a holder isn't lost, and none is told twice.
+/// A clearing of C finds it set exactly if a store was made since the clearing before it: a store
+/// while a call holds the entry isn't lost, and none counts twice.
 #[test]
 fn stores_beside_clearings(rt: HostRuntime) -> Result<(), Fail> {
     let ended = run_two(

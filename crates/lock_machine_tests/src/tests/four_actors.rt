@@ -87,7 +87,7 @@ fn state_stored(turn: u32) -> EntryState {
     }
 }
 
-/// What the actor with this role is told in a turn.
+/// What the receipt says that the actor with this role makes in a turn.
 fn told_in(role: u32, turn: u32) -> Told
     requires { turn < TURNS }
 {

@@ -104,7 +104,7 @@ fn worn(referenced: bool) -> EntryState {
     }
 }
 
-/// The states of a table of empty entries but for that one.
+/// The states of a table of empty entries except for that one.
 fn states(alloc: Global) -> Result<Vec<EntryState>, AllocError>
     ensures { IfOk result (λ states. vec_len states ≡ entry_count 18) }
 {

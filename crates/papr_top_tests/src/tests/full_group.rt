@@ -1,5 +1,5 @@
 //! More calls of more processors than a group has entries. Which of them get one is the schedule's
-//! choice, and each reply is known but for that.
+//! choice, and each reply is known except for that.
 
 use super::gates::{answered, judged_input};
 use super::par::together;
@@ -8,7 +8,7 @@ use std::alloc::Global;
 use std::fmt::Write;
 use std::test::Fail;
 
-/// Lines of each processor, and the first line behind the configuration.
+/// Lines of each processor, and the first line after the configuration.
 const EACH: u32 = 2;
 
 const FIRST: u32 = 4;

@@ -27,7 +27,7 @@ const PROCESSORS: u64 = 64;
 /// Bolted pages, each in the first slot of its group.
 const PAGES: u64 = 2_048;
 
-/// The lines behind the accesses.
+/// The lines after the accesses.
 const LAST_LINES: &str = "0 H_RESIZE_HPT_PREPARE 0x0 21
 1 H_RESIZE_HPT_PREPARE 0x0 21
 2 H_RESIZE_HPT_PREPARE 0x0 21
@@ -55,7 +55,7 @@ const RESIZED: &str = "4166 0 H_RESIZE_HPT_PREPARE 9900
 4175 dump table 1 order 21 place 0x1000200000 entries 2048
 ";
 
-/// Those behind the dump.
+/// Those after the dump.
 const RESIZED_ACCESSES: &str = "4176 63 load at 0x2000000000 walk | 0x8.0.2.at
 4177 63 load at 0x2000000000 hit | 0x8.0.2.at
 ";

@@ -1,4 +1,4 @@
-//! Runs of 64 processors in threads of their own, whose replies are known but for the schedule.
+//! Runs of 64 processors in threads of their own, whose replies are known except for the schedule.
 
 use super::{list, text_in};
 use papr_top::{OpenGate, Status, papr};

@@ -1,3 +1,4 @@
+//! The program without threads, which refuses `par`, and the number of each exit status.
 use super::{list, text_in};
 use papr_top::{Status, papr_serial};
 use std::test::Fail;

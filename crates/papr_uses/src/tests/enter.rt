@@ -1,3 +1,5 @@
+//! H_ENTER on small tables: the slots of a group in their order, the words that are refused, and
+//! entries at their last stamp.
 use super::{STORAGE, Wanted, empty_table, expect, table_with};
 use entry_model::{Answer, EntryState};
 use frame_grants::{Grant, GrantError, Grants, Kind};

@@ -1,3 +1,4 @@
+//! The two resize calls on a partition: their codes in turn, and which entries the new table has.
 ghost use Rattle.std.specs.Prelude.{◌≡◌, ◌≤◌, ◌%◌, ◌^◌, IfOk};
 ghost use Rattle.partition.specs.PartitionState.{HasStates};
 ghost use Rattle.hpte_fields.specs.TableSize.{least_order};

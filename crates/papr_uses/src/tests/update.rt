@@ -1,3 +1,5 @@
+//! The calls that read, change or remove entries, on entry 0x20: each reply with its code, words
+//! and receipts.
 use super::{Wanted, entry, expect, table_with};
 use entry_model::{Answer, HReply};
 use h_update::{h_bulk_remove, h_clear_mod, h_clear_ref, h_protect, h_read, h_remove};
@@ -22,8 +24,8 @@ struct Row {
     wanted: Wanted,
 }
 
-/// Calls in turn on a table of empty entries but for entry 0x20, which H_ENTER made. `touched` says
-/// that R and C are set.
+/// Calls in turn on a table of empty entries except for entry 0x20, which H_ENTER made. `touched`
+/// says that R and C are set.
 struct Case {
     name: &'static str,
     dword0: u64,

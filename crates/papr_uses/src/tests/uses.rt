@@ -1,3 +1,4 @@
+//! The callers of this crate, each on a small example.
 ghost use Rattle.std.specs.Prelude.{◌≡◌, ◌≤◌, ◌<◌, ◌+◌, ◌-◌, ◌^◌, false, replicate, vec_len, IfOk, IsTrue};
 ghost use Rattle.hpte_fields.specs.TableSize.{entry_count, least_order};
 ghost use Rattle.entry_model.specs.State.{empty_state};

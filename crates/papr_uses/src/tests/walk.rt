@@ -1,3 +1,5 @@
+//! Walks of one page over tables with at most one valid entry: how many entries are tried, and what
+//! the last one answers.
 use super::empty_table;
 use authority_mask::Masks;
 use entry_model::{Answer, EntryStore, Op};
@@ -22,8 +24,8 @@ const WALKED: [u32; 16] = [
     0x3FDE, 0x3FDF,
 ];
 
-/// A walk over a table of empty entries but for this one: how many receipts it makes, and what the
-/// last one says.
+/// A walk over a table of empty entries except for this one: how many receipts it makes, and what
+/// the last one says.
 struct Row {
     name: &'static str,
     entry: u32,
@@ -60,7 +62,7 @@ const ROWS: &[Row] = &[
     },
 ];
 
-/// An empty table but for the row's entry.
+/// An empty table except for the row's entry.
 fn table_of(alloc: Global, row: &Row) -> Result<PlainTable, Fail> {
     let mut table = empty_table(alloc)?;
     let (pteh, ptel) = row.words;

@@ -1,3 +1,5 @@
+//! The pool compared with a plain one: 8000 drawn takings and returns of blocks, with the same
+//! places from both.
 ghost use Rattle.std.specs.Prelude.{◌≤◌, ◌<◌, All, Contains, OnOk, length};
 ghost use Rattle.hpt_pool.specs.Pool.{block_at};
 

@@ -1,3 +1,4 @@
+//! The simplest pool, with which the real one is compared: a list of leaves, each taken or not.
 ghost use Rattle.std.specs.Prelude.{◌≤◌};
 
 use std::alloc::{AllocError, Global};

@@ -25,7 +25,7 @@ read_target held from to index xs read state o answer inside is shown said answe
     ∙ sym said
     ∙ answered
 
--- The entry that stands at a target.
+-- The entry that is at a target.
 read_valid :
     {X : Type 0} (held : X → State) (xs : List X) (target : ℕ) (read : X) (state : State)
     (valid : Bool)

@@ -24,7 +24,7 @@ use Rattle.c_layout.specs.Entries.{states_of}
 use Rattle.c_layout.proofs.Marks.{passed_marked}
 use Rattle.papr_c.proofs.running.try_trial.Goals as goal
 
--- Whether the receipt that ended a trial says so.
+-- Whether a cached translation may no longer hold, by the receipt that ended a trial.
 abbrev ends_so : Option Receipt → Bool
 ends_so ending = option_map_or (λ (r : Receipt). is_stale r.answer) ending false
 
@@ -115,13 +115,14 @@ returns-in-Contents-clause-told c =
     (calls_from (op k) t.first t.count) in
     let stays : (states_of c.try_lent-tried-in-Contents.new.entries) ≡ entries =
     c.try_lent-tried-in-Contents.ensures.entries ∙ ap (λ z. z.1) same ∙ read.entries in
-    let shown : c.put_entries-shown.result ≡ min (length c.args.words.now) (length ws) =
-    c.put_entries-shown.ensures.count ∙ ap (min (length c.args.words.now))
+    let shown : c.put_doublewords-shown.result ≡ min (length c.args.words.now) (length ws) =
+    c.put_doublewords-shown.ensures.count ∙ ap (min (length c.args.words.now))
     (sym (words-length entries t.first t.count)) in
     let many = rw c.try_lent-tried-in-Contents.ensures.count at c.filled_count.ensures in
     let filled : c.filled_count.result ≡ min (length c.args.receipts.now) (length x.0) = many ∙ ap
     (λ z. min (length c.args.receipts.now) (length z.0)) same in
-    call_tried _ (plan_of_trial t) _ x Success ws c.answered.result c.put_entries-shown.new.slots
+    call_tried _ (plan_of_trial t) _ x Success ws c.answered.result
+    c.put_doublewords-shown.new.slots
     c.try_lent-tried-in-Contents.new.receipts (states_of c.try_lent-tried-in-Contents.new.entries)
     c.requires.table
     (sym same)
@@ -133,7 +134,7 @@ returns-in-Contents-clause-told c =
       receipts = filled k;
       stale = sym read.fresh k;
     })
-    (c.put_entries-shown.ensures.put
+    (c.put_doublewords-shown.ensures.put
     ∙ ap (λ e. placed c.args.words.now 0 (words_of_entries e t.first t.count)) stays
     ∙ placed_filled ws c.args.words.now)
     (c.try_lent-tried-in-Contents.ensures.receipts

@@ -91,7 +91,7 @@ loop-made-2-preserved g c =
           c.try_next-in-loop-made-2.ensures.passed;
     }
 
--- ---- behind the last call
+-- ---- after the last call
 pub returns-clause-entries : goal.returns-clause-entries
 returns-clause-entries g c =
     let past : length (g.C.CallList.calls c.args.calls.now) ≤ c.loop-made-2.made = omega

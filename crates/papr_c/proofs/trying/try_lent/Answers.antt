@@ -47,7 +47,7 @@ loop-made-preserved g c =
           c.loop-made.invariant.passed c.try_next.ensures.passed;
     }
 
--- ---- behind the last call
+-- ---- after the last call
 pub returns-clause-entries : goal.returns-clause-entries
 returns-clause-entries g c =
     let past : length (g.C.CallList.calls c.args.calls.now) ≤ c.loop-made.made = omega

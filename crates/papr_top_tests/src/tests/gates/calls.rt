@@ -119,7 +119,7 @@ impl<'a> Calls<'a> {
         })
     }
 
-    /// Puts a call behind the others. The line is put last: with it the call is there.
+    /// Adds a call at the end of the list. Its line is stored last: with it the call is there.
     fn note(&self, place: Place, cpu: u32, line: u32) {
         let index = self.count.fetch_add(1, Ordering::SeqCst) as usize;
         if let Some(call) = self.kept.get(index) {

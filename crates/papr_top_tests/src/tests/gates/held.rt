@@ -9,8 +9,7 @@ use std::sync::Wait;
 use std::test::Fail;
 use std::thread::Threads;
 
-/// A trace, who is held where, and what comes of it: the text, and the gate's calls for each
-/// processor.
+/// A trace, who is held where, and the result: the text, and the gate's calls for each processor.
 #[derive(Drop)]
 struct Held<'a> {
     input: &'a str,

@@ -1,4 +1,4 @@
-//! Runs of many lines beside each other: each line is answered, and the text is judged good.
+//! Long runs of processors side by side: each line is answered, and the text is judged good.
 use super::{answered_within, judged_input};
 use papr_top::{OpenGate, Status};
 use std::alloc::Global;

@@ -13,7 +13,7 @@ call_at-requires g c =
     let short = begun_short _ _ _ c.loop-i.invariant.begun in
     omega (arith, short, c.loop-i.invariant.count)
 
--- ---- behind the last call
+-- ---- after the last call
 pub returns-in_default-clause-trial : goal.returns-in_default-clause-trial
 returns-in_default-clause-trial g c =
     begun_whole _ _ _ c.loop-i.invariant.begun

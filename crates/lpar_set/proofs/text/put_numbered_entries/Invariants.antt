@@ -1,7 +1,7 @@
 use Rattle.std.proofs.Common.{◌≡◌, ◌++◌, take, string_bytes}
 use Rattle.std.specs.List.{flat_map}
 use Rattle.lpar_set.specs.SetText.{numbered_entry}
-use Rattle.lpar_set.proofs.text.put_entries.Given as goal
+use Rattle.lpar_set.proofs.text.put_numbered_entries.Given as goal
 
 abbrev pub invariant-loop-entry : goal.invariant-loop-entry
 invariant-loop-entry l =

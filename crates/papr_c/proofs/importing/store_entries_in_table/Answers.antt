@@ -9,7 +9,7 @@ use Rattle.papr_c.proofs.Transfers.{entered_at, entries-more, set_replaced}
 use Rattle.c_layout.specs.Entries.{Entry, states_of, entry_with, AreMarked}
 use Rattle.c_layout.proofs.Marks.{states-length, states-set, marked_none}
 use Rattle.papr_c.proofs.LentEntries.{marked-length, marked_set, drop_set, same_rest, replaced_none}
-use Rattle.papr_c.proofs.importing.put_entries.Goals as goal
+use Rattle.papr_c.proofs.importing.store_entries_in_table.Goals as goal
 
 pub unwrap-state-requires : goal.unwrap-state-requires
 unwrap-state-requires c =

@@ -4,7 +4,7 @@ use Rattle.entry_model.specs.Run.{state_at}
 use Rattle.papr_c.proofs.LentEntries.{state_read}
 use Rattle.papr_c.proofs.Reading.{put_more}
 use Rattle.c_layout.specs.Entries.{Entry, states_of}
-use Rattle.papr_c.proofs.read.put_entries.Goals as goal
+use Rattle.papr_c.proofs.read.put_doublewords.Goals as goal
 
 pub loop-i-preserved : goal.loop-i-preserved
 loop-i-preserved c =

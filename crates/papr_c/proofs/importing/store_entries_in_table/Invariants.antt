@@ -2,7 +2,7 @@ use Rattle.std.proofs.Common.{◌≡◌, ◌+◌, drop}
 use Rattle.c_layout.specs.Entries.{states_of, AreMarked}
 use Rattle.c_layout.specs.Grants.{listed}
 use Rattle.papr_c.specs.Transfers.{replaced, entries_of_bytes}
-use Rattle.papr_c.proofs.importing.put_entries.Given as goal
+use Rattle.papr_c.proofs.importing.store_entries_in_table.Given as goal
 
 abbrev pub invariant-loop-i : goal.invariant-loop-i
 invariant-loop-i l =

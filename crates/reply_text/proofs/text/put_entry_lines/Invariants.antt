@@ -1,7 +1,7 @@
 use Rattle.std.proofs.Common.{◌≡◌, ◌≤◌, ◌++◌, take, string_bytes, string_capacity}
 use Rattle.std.specs.List.{flat_map}
 use Rattle.reply_text.specs.Text.{entry_text}
-use Rattle.reply_text.proofs.text.put_entries.Given as goal
+use Rattle.reply_text.proofs.text.put_entry_lines.Given as goal
 
 abbrev pub invariant-loop-entry : goal.invariant-loop-entry
 invariant-loop-entry l = record {

@@ -1,0 +1,12 @@
+pub mod Answers
+pub mod Kept
+pub mod Frame
+pub mod Touched
+pub mod CallWords
+pub mod CallSteps
+pub mod WalkSteps
+pub mod Whole
+pub mod Later
+pub mod Tables
+pub mod Bytes
+pub mod Rows

@@ -9,7 +9,7 @@ from typing import Optional
 import retarget
 from common import Bad
 from toolchain import toolchain
-from workshop import CALLS, PROGRAM, Workshop, run
+from workshop import BYTES, CALLS, Workshop, run
 
 EXPORT, ROOM = "papr_bytes_call", "page_room"
 DECODING = {"papr_decode", "papr_rights"}  # what the page calls of the library for C
@@ -81,7 +81,7 @@ def compiled(shop: Workshop, name: str, text: str) -> Path:
 
 def module(shop: Workshop) -> Path:
     """The module: proved, retargeted, compiled for wasm64, linked with the heap, and made of 32 bits."""
-    program = compiled(shop, "program", retarget.retargeted(shop.module(PROGRAM), {EXPORT}))
+    program = compiled(shop, "program", retarget.retargeted(shop.module(BYTES), {EXPORT}))
     decoding = compiled(shop, "decoding", retarget.exporting(lowered(shop), DECODING))
     library, wide, narrow = (shop.work / it for it in ("libmodule.a", "papr64.wasm", "papr.wasm"))
     library.unlink(missing_ok=True)

@@ -1,4 +1,4 @@
-"""Static libraries of proved crates, for this processor and for others, and the modules of LLVM on the way.
+"""What is compiled of proved crates, for this processor and for others, and the modules of LLVM on the way.
 
 The crates below are proved as ./papr proves them, and kept. What is made on the way stays in out/workshop.
 """
@@ -13,14 +13,16 @@ from pathlib import Path
 from typing import Optional
 
 from common import Bad
-from crates import CRATES, TOP, files_of, lines_of, uses_of, with_those_below
+from crates import CRATES, TOP, files_of, is_program, lines_of, uses_of, with_those_below
 from progress import Progress, moving
 from proving import BUILT, Builder, processors, prove_all
 from schedule import NONE, Plan, efforts_of
 from toolchain import Toolchain, toolchain
 
-# The crates of the libraries for C: of the calls, of the table that threads share, and of the program on bytes.
-CALLS, TABLE, PROGRAM = "papr_c", "papr_shared", "papr_bytes"
+# The crates of the libraries for C: of the calls, of the table that threads share, and of the program on bytes. And the
+# program's, and that of its tests.
+CALLS, TABLE, BYTES, PROGRAM = "papr_c", "papr_shared", "papr_bytes", "papr_main"
+TESTS = "papr_top_tests"
 LOG, WORK = TOP / "out" / "workshop.log", TOP / "out" / "workshop"
 TEXT_OF_MODULE = "-S -emit-llvm -x ir -O3 -Xclang -disable-llvm-passes".split()
 
@@ -78,15 +80,22 @@ class Workshop:
         """Where the module of LLVM is kept, of a crate that was compiled for a target."""
         return self.work / f"{crate}-{target or 'native'}.bc"
 
-    def archive(self, crate: str, target: str = "") -> Path:
-        """Proves a crate and compiles its static library for a target, without the heap that it may call."""
+    def compiled(self, crate: str, target: str = "") -> Path:
+        """Proves a crate and compiles it for a target: its static library without the heap, or its program unlinked.
+
+        That of the crate of tests is the program that runs the test which it is given the name of.
+        """
         kept = self.kept(crate, target)
         line = lines_of(TOP / "crates.txt")[crate]
-        root = CRATES / crate / "src" / "lib.rt"
-        made = kept.with_suffix(".a")
+        root, made = CRATES / crate / "src" / "lib.rt", kept.with_suffix(".a")
+        kind = ["--crate-type", "staticlib"]
+        if is_program(crate):
+            root, made, kind = root.with_name("main.rt"), kept.with_suffix(".o"), ["--backend", "llvm"]
+        elif crate == TESTS:
+            made, kind = kept.with_suffix(".o"), ["--test", "--backend", "llvm"]
         words = self.kit.reading(crate, root, line, self.built, min(2, os.cpu_count() or 1))
         tools = self.keeping_toolchain(kept)
-        words += ["--crate-type", "staticlib", "--toolchain", str(tools)]
+        words += [*kind, "--toolchain", str(tools)]
         words += ["--incremental", str(self.work / f"incremental-{crate}"), "-o", str(made)]
         try:
             said = run([*words, *(["--target", target] if target else [])])
@@ -99,7 +108,7 @@ class Workshop:
 
     def module(self, crate: str, target: str = "") -> str:
         """Proves and compiles a crate, and gives the text of the module of LLVM on the way."""
-        self.archive(crate, target)
+        self.compiled(crate, target)
         kept = self.kept(crate, target)
         text = kept.with_suffix(".ll")
         of_target = [f"--target={target}"] if target else []
@@ -114,10 +123,10 @@ class Workshop:
 
 
 def prove_below() -> None:
-    """Proves the crates that the libraries for C stand on, as far as that isn't kept, side by side."""
+    """Proves the crates that the libraries for C and the program stand on, as far as that isn't kept, side by side."""
     lines = lines_of(TOP / "crates.txt")
     uses = uses_of(lines)
-    order = with_those_below([used for name in (CALLS, TABLE, PROGRAM) for used in uses[name]], uses)
+    order = with_those_below([used for name in (CALLS, TABLE, BYTES, PROGRAM) for used in uses[name]], uses)
     LOG.parent.mkdir(exist_ok=True)
     LOG.write_text("", encoding="utf-8")
     BUILT.mkdir(parents=True, exist_ok=True)

@@ -28,13 +28,17 @@ class Emulated:
         return f"{self.tools}-gcc"
 
     @property
+    def unready(self) -> str:
+        """Which of the commands that the tests need isn't installed, or nothing."""
+        found = missing(self.compiler, f"qemu-{self.name}")
+        return f"{' and '.join(found)} is not installed" if found else ""
+
+    @property
     def lacking(self) -> str:
         """Why nothing can be tested of it here, or nothing."""
-        found = missing(self.compiler, f"qemu-{self.name}")
-        if found:
-            return f"{' and '.join(found)} is not installed"
-        is_built = (self.built / "papr").is_file()
-        return "" if is_built else f"nothing is built for {self.name}: {self.built} is missing (make {self.name})"
+        place, command = self.built / "papr", f"make {self.name}"
+        built = "" if place.is_file() else f"nothing is built for {self.name}: {place} is missing ({command})"
+        return self.unready or built
 
     def __str__(self) -> str:
         return self.name

@@ -6,14 +6,21 @@ import shutil
 import subprocess
 import sys
 import tempfile
+import unittest
 from pathlib import Path
-from typing import ClassVar
+from typing import Callable, ClassVar
 
 from .built import OBJECTS, declared
+from .calls import trace_of
 from .emulator import AARCH64, PPC64LE, RISCV64, Emulated
 from .stand_in import Checkout
-from .support import DATA, EXAMPLES, MAJOR, PROGRAM, TOP, VERSION, Ran, Text, ToolTest, Word, for_each, needs
-from .support import needs_program, run, run_bytes, write_script
+from .support import DATA, EXAMPLES, MAJOR, PROGRAM, TOP, VERSION, Ran, Test, Text, ToolTest, Word, for_each
+from .support import needs, needs_program, run, run_bytes, write_script
+
+sys.path[:0] = [str(TOP / "tools" / "targets"), str(TOP / "tools")]
+from machines import OTHERS  # noqa: E402
+from porting import ported_program  # noqa: E402
+from workshop import TESTS, is_current  # noqa: E402
 
 TRACES = sorted(path.stem for path in EXAMPLES.glob("*.trace"))
 STRICT = ("-std=gnu11", "-O2", "-Wall", "-Wextra", "-Werror", f"-I{TOP / 'include'}")
@@ -23,6 +30,8 @@ SOURCES = {
     "fields": [DATA / "fields.c"],
     "hammer": [path for path in sorted((EXAMPLES / "shared").glob("*.c")) if path.name != "two-threads.c"],
 }
+# A minute of calls, by either way to each of the three libraries.
+THREADS, CALLS = 4, 200_000
 WORDS = (
     "",
     "run",
@@ -36,7 +45,30 @@ WORDS = (
     "drill 1 100001",
     "usage",
     "run a b c",
+    "par",
+    "par par",
 )
+
+
+# A test of a crate, in a file of its module.
+TESTS_OF_GATES = TOP / "crates" / TESTS / "src"
+OF_TEST = re.compile(r"^#\[test\]\n(?:pub )?fn (\w+)\(", re.M)
+
+
+def tests_of_gates() -> list[str]:
+    """The names of the tests in the sources, as the program of them lists them."""
+    files = sorted(TESTS_OF_GATES.rglob("*.rt"))
+    modules = {path: "::".join(path.relative_to(TESTS_OF_GATES).with_suffix("").parts) for path in files}
+    found = [f"{modules[path]}::{name}" for path in files for name in OF_TEST.findall(path.read_text("utf-8"))]
+    return sorted(found)
+
+
+def needs_gates(machine: Emulated) -> Callable[[Test], Test]:
+    """Skips the tests of a class where those of a gate aren't built of these sources, or can't be run."""
+    place = machine.built / "gates"
+    told = f"{place} is missing or older than its sources (tools/targets/build-for --gates {machine})"
+    lacking = machine.unready or ("" if is_current(place, TESTS) else told)
+    return unittest.skipIf(lacking, lacking)
 
 
 class Without(ToolTest):
@@ -67,7 +99,9 @@ class Without(ToolTest):
     def test_it_is_refused_without(self, words: tuple[str, str, str]) -> None:
         name, command, package = words
         older = self.older(name)
-        self.assert_refused(self.build(name), f"build-for: {command} isn't here; Debian's package {package} has it")
+        for given in ((name,), ("--gates", name)):
+            told = f"build-for: {command} isn't here; Debian's package {package} has it"
+            self.assert_refused(self.build(*given), told)
         self.assertTrue(older.exists())
 
     def test_where_it_need_not_be_built_nothing_older_is_left(self) -> None:
@@ -90,7 +124,7 @@ class Without(ToolTest):
 
 
 class ProgramCases(ToolTest):
-    """The program over the library of the program on bytes. The classes below have the cases for each processor."""
+    """The program, which ends and writes as the one here. The classes below have the cases for each processor."""
 
     machine: ClassVar[Emulated]
 
@@ -104,9 +138,33 @@ class ProgramCases(ToolTest):
 
     @needs("xz")
     def test_it_writes_the_bytes_of_all_examples(self) -> None:
-        ran = run(EXAMPLES / "check", "--serial", self.papr)
+        ran = run(EXAMPLES / "check", self.papr)
         self.assert_ran(ran, out=None)
         self.assertRegex(ran.out.splitlines()[-1], r"\A[1-9][0-9]+ passed, 0 failed\Z")
+        self.assertIn("\npass par first\n", ran.out)
+
+    def test_it_answers_the_rows(self) -> None:
+        ran = run(TOP / "tests" / "rows", self.papr)
+        self.assert_ran(ran, out=None)
+        self.assertRegex(ran.out, r"\A[1-9][0-9]+ passed, 0 failed, [0-9]+ skipped\n\Z")
+
+    @needs_program
+    @for_each(2, 8, 64)
+    def test_the_replies_of_so_many_threads_are_those_of_a_good_run(self, processors: int) -> None:
+        trace = trace_of(processors, processors, 20_000)
+        ran = run(self.papr, "par", given=trace)
+        self.assert_ran(ran, out=None)
+        self.assertEqual(ran.out.count("\n"), processors + 20_000)
+        self.assert_ran(run(PROGRAM, "check", given=f"{trace}replies\n{ran.out}"), "good\n")
+
+    @needs_program
+    def test_a_thread_has_stack_enough(self) -> None:
+        """It is as large as the main one may be, as for the program here, and a small one is enough."""
+        trace = trace_of(1, 8, 2_000)
+        for stack in ("256", "8192"):
+            ran = run("sh", "-c", f'ulimit -s {stack} && exec "$0" par', self.papr, given=trace)
+            self.assert_ran(ran, out=None)
+            self.assert_ran(run(PROGRAM, "check", given=f"{trace}replies\n{ran.out}"), "good\n")
 
     @needs_program
     @for_each(*WORDS)
@@ -153,6 +211,18 @@ class ProgramCases(ToolTest):
             os.close(unread)
             os.close(kept_open)
         self.assertEqual((ended.returncode, ended.stdout), (1, "papr: usage\n"))
+
+    @needs("clang-19")
+    def test_a_thread_waits_and_is_woken(self) -> None:
+        """By the conversion of a program that does so; papr waits only after more steps than it will ever make."""
+        machine = OTHERS[self.machine.name]
+        text, compiled, program = (self.folder / f"waiting{ending}" for ending in (".ll", ".o", ""))
+        text.write_text(ported_program((DATA / "waiting.ll").read_text(encoding="ascii"), machine), encoding="ascii")
+        of_module = (f"--target={machine.triple}", *machine.flags, "-O2", "-fPIC", "-c", "-x", "ir")
+        self.assert_ran(run("clang-19", *of_module, text, "-o", compiled))
+        words = (*STRICT, *machine.flags, "-pthread")
+        self.assert_ran(run(machine.compiler, *words, DATA / "waiting.c", compiled, "-o", program))
+        self.assert_ran(run(self.machine.emulated(program, self.folder)))
 
     def test_what_cannot_be_read_or_written(self) -> None:
         trace = EXAMPLES / "first.trace"
@@ -204,11 +274,12 @@ class LibraryCases(ToolTest):
 
     @for_each("archive", "shared")
     def test_threads_call_one_table(self, way: str) -> None:
-        ran = self.run_program(f"hammer-{way}", "4", "1000", "check")
+        ran = self.run_program(f"hammer-{way}", str(THREADS), str(CALLS), "check")
         self.assert_ran(ran, out=None)
         self.assertIn("each entry has one legal history", ran.out)
         told = rf"hammer of papr {re.escape(VERSION)} on {self.machine.name} with [0-9]+ processors, Linux [^ ]+"
-        self.assertRegex(ran.out.splitlines()[-1], rf"\A{told}: 4 threads, 4000 calls, check: well\Z")
+        made = f"{THREADS} threads, {THREADS * CALLS} calls"
+        self.assertRegex(ran.out.splitlines()[-1], rf"\A{told}: {made}, check: well\Z")
 
     @for_each(*OBJECTS)
     def test_the_shared_object_is_as_the_one_here(self, variable: str) -> None:
@@ -220,6 +291,37 @@ class LibraryCases(ToolTest):
         head = run(f"{tools}-readelf", "-h", "-d", place).out
         self.assertIn(f"[{name.partition('.so')[0]}.so.{MAJOR}]", head)
         self.assertRegex(head, rf"Machine: +{self.machine.told}\n")
+
+
+class GatesCases(ToolTest):
+    """The tests of the whole program that `rt ci` runs, made for another processor. The classes below run them there.
+
+    In those of `gates` the caller's gate holds processors of par at chosen steps: between two pairs of a bulk call, at
+    an entry that another one wants, or 64 of them until all are there. Who is held goes on once another one has come
+    where the test says. So they show that the threads there take the steps of these schedules in that order, and answer
+    as the sources of each test say. Each runs in a process of its own, as `rt ci` runs it. What the processor's memory
+    may reorder they don't show: the emulator runs on this one.
+    """
+
+    machine: ClassVar[Emulated]
+
+    def setUp(self) -> None:
+        super().setUp()
+        self.gates = self.machine.emulated(self.machine.built / "gates", self.folder)
+
+    def test_it_has_the_tests_of_the_sources(self) -> None:
+        names = tests_of_gates()
+        ran = run(self.gates, "--list")
+        self.assert_ran(ran, out=None)
+        *listed, count = ran.out.splitlines()
+        self.assertEqual((sorted(listed), count), ([f"{name}: test" for name in names], f"tests: {len(names)}"))
+
+    @for_each(*tests_of_gates())
+    def test_it_passes(self, name: str) -> None:
+        self.assert_ran(run(self.gates, name), "\ntest result: ok\n")
+
+    def test_a_test_of_another_name_does_not(self) -> None:
+        self.assertEqual((run(self.gates, "tests::gates::frob").status, run(self.gates).status), (2, 2))
 
 
 @AARCH64.needed
@@ -264,5 +366,26 @@ class LibraryOfRiscv64(LibraryCases):
     machine = RISCV64
 
 
+@needs_gates(AARCH64)
+class GatesOfAarch64(GatesCases):
+    """The tests of gates for aarch64."""
+
+    machine = AARCH64
+
+
+@needs_gates(PPC64LE)
+class GatesOfPpc64le(GatesCases):
+    """The tests of gates for powerpc64le."""
+
+    machine = PPC64LE
+
+
+@needs_gates(RISCV64)
+class GatesOfRiscv64(GatesCases):
+    """The tests of gates for riscv64."""
+
+    machine = RISCV64
+
+
 # They are of no processor by themselves.
-del ProgramCases, LibraryCases
+del ProgramCases, LibraryCases, GatesCases

@@ -5,7 +5,8 @@
  *
  * LOCKED is 1 for one lock, PLANT the number of an enum papr_plant, and TURNS how often each thread calls or walks
  * in each of five stretches. Between the first two the table is resized, and the others are parts of their own, of
- * which the second isn't recorded.
+ * which the second isn't recorded. With a fifth word it makes one part after another, until it is killed, and writes the
+ * number of each that has begun.
  */
 #include "qemu/osdep.h"
 #include "papr-record.h"
@@ -134,10 +135,20 @@ static void pause_part(void)
     work_together();
 }
 
+static void make_parts(void)
+{
+    for (int number = 1;; number++) {
+        begin_part();
+        printf("%d\n", number);
+        fflush(stdout);
+        work_together();
+    }
+}
+
 int main(int count, char **words)
 {
     const struct papr_grant ram = {0, 1ULL << 58, 1 << 29, false};
-    if (count != 5)
+    if (count < 5)
         return 2;
     papr_options.record = words[1];
     papr_options.is_locked = atoi(words[2]);
@@ -145,6 +156,8 @@ int main(int count, char **words)
     turns = atoi(words[4]);
     papr_table_grant(&ram, 1);
     papr_table_put(calloc(ENTRIES, sizeof(struct papr_entry)), ORDER, THREADS + 1);
+    if (count > 5)
+        make_parts();
     begin_part();
     work_together();
     resize();
@@ -154,7 +167,7 @@ int main(int count, char **words)
     pause_part();
     begin_part();
     work_together();
-    papr_record_end();
+    papr_record_end(true);
     papr_table_put(NULL, 0, 0);
     return 0;
 }

@@ -22,6 +22,9 @@
 #define MAX(a, b) ((a) > (b) ? (a) : (b))
 #define MIN(a, b) ((a) < (b) ? (a) : (b))
 
+/* Little is buffered, so that what is written out may end within a record. */
+#define setvbuf(file, buffer, mode, size) setvbuf(file, buffer, mode, (size) / 256)
+
 #define g_autofree
 #define g_free free
 #define g_usleep usleep

@@ -51,7 +51,8 @@ extern "C" {
 /* One number, which rises with each version. */
 #define PAPR_VERSION ((PAPR_VERSION_MAJOR << 16) | (PAPR_VERSION_MINOR << 8) | PAPR_VERSION_PATCH)
 
-/* The version of the library, which is PAPR_VERSION if header and library belong together. */
+/* The version of the library: major, minor and patch in 16, 8 and 8 bits. It is PAPR_VERSION if header
+ * and library belong together. */
 uint32_t papr_version(void);
 
 /* ---- the table */
@@ -63,7 +64,7 @@ uint32_t papr_version(void);
 struct papr_entry {
     uint64_t dword0;
     uint64_t dword1;    /* with R and C clear */
-    uint32_t stamp;     /* how often calls entered, removed or protected it, or cleared its R or C */
+    uint32_t stamp;     /* how often calls entered, removed or protected it, or cleared R or C, set or not */
     bool valid;
     bool referenced;    /* R */
     bool changed;       /* C */

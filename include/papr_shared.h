@@ -15,11 +15,14 @@
  *
  *     struct papr_reply reply = papr_try_h_enter(&pass, &grants, flags, ptex, pteh, ptel,
  *                                                words, 8, receipts, 16);
- *     while (reply.rc == PAPR_H_BUSY)
+ *     for (unsigned tries = 1; reply.rc == PAPR_H_BUSY; tries++) {
+ *         if (tries > 16)
+ *             sched_yield();
  *         reply = papr_again(&pass, words, 8, receipts, 16);
+ *     }
  *
  * A busy entry belongs to another thread that is inside a call, and the scheduler may have put that
- * thread aside: yield after some tries, and sleep after some more. No bound on the tries is proved.
+ * thread aside: so yield after some tries, and sleep after some more. No bound on the tries is proved.
  *
  * The functions can't check these conditions, so the caller has to ensure them: a pass is all zero or as
  * the calls left it, is never copied, and is in one call at a time (it may move from thread to thread

@@ -1,8 +1,13 @@
 """Tests that include/papr_bytes.h says what the sources of papr_bytes say, like test_c_layout for papr.h."""
 
-from .support import TOP, ToolTest, for_each
-from .test_c_layout import BYTES_STRUCTS, Header, Sources
-from .test_c_layout import in_capitals, laid_out, swapped, text_of, without_remarks
+import sys
+
+from .support import TOOLS, TOP, ToolTest, for_each
+from .test_c_layout import BYTES_STRUCTS, Sources, in_capitals, laid_out, swapped, text_of
+
+sys.path.insert(0, str(TOOLS))
+
+from interface.headers import Header, without_remarks  # noqa: E402
 
 HEADER = TOP / "include" / "papr_bytes.h"
 SOURCES = sorted((TOP / "crates" / "papr_bytes" / "src").glob("*.rt"))

@@ -5,10 +5,14 @@ crates/c_layout below it, and compared by name, order and type. A slice of the s
 """
 
 import re
-from dataclasses import dataclass
+import sys
 from pathlib import Path
 
-from .support import TOP, ToolTest, for_each
+from .support import TOOLS, TOP, ToolTest, for_each
+
+sys.path.insert(0, str(TOOLS))
+
+from interface.headers import PARTS, Function, Header, Named, Struct, without_remarks  # noqa: E402
 
 HEADER = TOP / "include" / "papr.h"
 FOLDERS = [TOP / "crates" / crate / "src" for crate in ("c_layout", "papr_c")]
@@ -44,35 +48,6 @@ STRUCTS = {
 SHARED_STRUCTS = {"PaprPass": "papr_pass", "PaprBusy": "papr_busy"}
 BYTES_STRUCTS = {"CallEnd": "papr_bytes_end"}
 NAMES = {**STRUCTS, **SHARED_STRUCTS, **BYTES_STRUCTS}
-FUNCTIONS = (
-    "papr_version",
-    "papr_make_grants",
-    "papr_machine_of",
-    "papr_h_enter",
-    "papr_h_remove",
-    "papr_h_protect",
-    "papr_h_read",
-    "papr_h_clear_ref",
-    "papr_h_clear_mod",
-    "papr_h_bulk_remove",
-    "papr_hcall",
-    "papr_walk",
-    "papr_probe",
-    "papr_decode",
-    "papr_rights",
-    "papr_take_changed",
-    "papr_rehash",
-    "papr_resize_prepare",
-    "papr_resize_commit",
-    "papr_slb_mte",
-    "papr_slb_clear",
-    "papr_slb_find",
-    "papr_put_tce",
-    "papr_get_tce",
-    "papr_device",
-    "papr_export",
-    "papr_import",
-)
 # Their entries are those of a window.
 OF_WINDOWS = ("papr_put_tce", "papr_get_tce", "papr_device")
 SCALARS = {
@@ -85,9 +60,6 @@ SCALARS = {
     "*mut u8": "void*",
 }
 WIDTHS = {"uint8_t": 1, "uint32_t": 4, "uint64_t": 8, "int64_t": 8, "size_t": 8, "bool": 1, "void*": 8}  # in bytes
-
-# The parts of a version.
-PARTS = ("MAJOR", "MINOR", "PATCH")
 
 # How the headers name the count behind a slice.
 COUNTS = {
@@ -113,68 +85,6 @@ UNSEEN = re.compile(r"(pub )?ghost |\w+: Global$")
 # A struct of the sources with its attributes, and a function for C.
 STRUCT = re.compile(r"((?:#\[[^\n]*\]\s*)*)pub struct (\w+) \{(.*?)\n\}", re.DOTALL)
 EXTERN = re.compile(r"(#\[unsafe\(no_mangle\)\]\s*)?pub extern \"C\" fn (\w+)\(([^()]*)\)(?: -> (\w+))?")
-
-Named = tuple[str, str]  # a name and its type in C
-
-
-@dataclass(frozen=True)
-class Function:
-    """A function of the library."""
-
-    parameters: list[Named]
-    result: str
-
-
-@dataclass(frozen=True)
-class Struct:
-    """A struct of the library; its alignment is C's where it says so."""
-
-    fields: list[Named]
-    is_c: bool = True
-
-
-def without_remarks(text: str) -> str:
-    """A text in C or in Rattle without its remarks."""
-    return re.sub(r"/\*.*?\*/|//[^\n]*", " ", text, flags=re.DOTALL)
-
-
-def c_type(words: str) -> str:
-    """A type in C, with single spaces, and none before a star."""
-    return " ".join(words.replace("*", " * ").split()).replace(" *", "*")
-
-
-def declared(words: str) -> Named:
-    """The name and the type that a field or a parameter in C declares."""
-    found = re.fullmatch(r"\s*(.*?)(\w+)\s*(\[\w+\])?\s*", words, re.DOTALL)
-    if found is None:
-        raise ValueError(f"this declares nothing: {words}")
-    return found[2], c_type(found[1]) + (found[3] or "")
-
-
-class Header:
-    """What the header declares."""
-
-    def __init__(self, text: str) -> None:
-        text = without_remarks(text)
-        self.structs: dict[str, Struct] = {}
-        for name, body in re.findall(r"\bstruct (\w+) \{(.*?)\};", text, re.DOTALL):
-            self.structs[name] = Struct([declared(field) for field in body.split(";") if field.strip()])
-        self.functions: dict[str, Function] = {}
-        for result, name, given in re.findall(r"^((?:struct )?\w+) (\w+)\(([^()]*)\);", text, re.MULTILINE):
-            parameters = [] if given == "void" else given.split(",")
-            self.functions[name] = Function([declared(it) for it in parameters], result)
-        self.enums: dict[str, dict[str, int]] = {}
-        for name, body in re.findall(r"\benum (\w+) \{(.*?)\};", text, re.DOTALL):
-            members = re.findall(r"(\w+) = (-?[0-9]+)", body)
-            self.enums[name] = {member: int(value) for member, value in members}
-        sizes = re.findall(r"^PAPR_SIZE\((\w+), ([0-9]+)\);", text, re.MULTILINE)
-        self.sizes = {name: int(size) for name, size in sizes}
-        places = re.findall(r"^PAPR_AT\((\w+), (\w+), ([0-9]+)\);", text, re.MULTILINE)
-        self.places = {(name, field): int(place) for name, field, place in places}
-        defined = re.findall(r"^#define (PAPR_\w+)\s+UINT64_C\((0x[0-9A-F]+)\)", text, re.MULTILINE)
-        self.flags = {name: int(value, 16) for name, value in defined}
-        parts = dict(re.findall(r"^#define PAPR_VERSION_(\w+) ([0-9]+)$", text, re.MULTILINE))
-        self.version = [int(parts[name]) for name in PARTS if name in parts]
 
 
 def split_outside(text: str) -> list[str]:
@@ -385,14 +295,14 @@ class Constants(ToolTest):
 class Functions(ToolTest):
     """The functions."""
 
-    @for_each(*FUNCTIONS)
+    @for_each(*header().functions)
     def test_the_parameters_and_the_result_of_are_those_of_the_sources(self, name: str) -> None:
         self.assertEqual(bool(header().functions[name].parameters), name != "papr_version")
         self.assertEqual(header().functions[name], sources().functions[name])
 
     def test_neither_has_another_function(self) -> None:
-        self.assertCountEqual(header().functions, FUNCTIONS)
-        self.assertCountEqual(sources().functions, FUNCTIONS)
+        self.assertIn("papr_h_enter", header().functions)
+        self.assertCountEqual(sources().functions, header().functions)
 
 
 # Swaps in the sources by which a caller in C would read another field, or pass another value: the struct or

@@ -1,33 +1,19 @@
 """Tests that include/papr_shared.h says what the sources of the shared table say, as test_c_layout does for papr.h."""
 
 import re
+import sys
 
-from .support import TOP, ToolTest, for_each
-from .test_c_layout import SHARED_STRUCTS, Header, Sources, laid_out, swapped, text_of, without_remarks
+from .support import TOOLS, TOP, ToolTest, for_each
+from .test_c_layout import SHARED_STRUCTS, Sources, laid_out, swapped, text_of
+
+sys.path.insert(0, str(TOOLS))
+
+from interface.headers import Header, without_remarks  # noqa: E402
 
 HEADER = TOP / "include" / "papr_shared.h"
 SOURCES = [
     path for name in ("shared_pass", "papr_shared") for path in sorted((TOP / "crates" / name / "src").glob("*.rt"))
 ]
-FUNCTIONS = (
-    "papr_open",
-    "papr_split",
-    "papr_join",
-    "papr_close",
-    "papr_try_h_enter",
-    "papr_try_h_remove",
-    "papr_try_h_protect",
-    "papr_try_h_read",
-    "papr_try_h_clear_ref",
-    "papr_try_h_clear_mod",
-    "papr_try_h_bulk_remove",
-    "papr_try_hcall",
-    "papr_again",
-    "papr_try_walk",
-    "papr_walk_again",
-    "papr_held_up",
-    "papr_give_up",
-)
 # What a pass has of its own is in a struct that C sees as parts of it.
 POINTER = re.compile(r"pub struct WorkingPointer \{(.*?)\n\}", re.DOTALL)
 
@@ -91,14 +77,14 @@ class SharedConstants(ToolTest):
 class SharedFunctions(ToolTest):
     """The functions."""
 
-    @for_each(*FUNCTIONS)
+    @for_each(*header().functions)
     def test_the_parameters_and_the_result_of_are_those_of_the_sources(self, name: str) -> None:
         self.assertTrue(header().functions[name].parameters)
         self.assertEqual(header().functions[name], sources().functions[name])
 
     def test_neither_has_another_function(self) -> None:
-        self.assertCountEqual(header().functions, FUNCTIONS)
-        self.assertCountEqual(sources().functions, FUNCTIONS)
+        self.assertIn("papr_try_h_enter", header().functions)
+        self.assertCountEqual(sources().functions, header().functions)
 
     @for_each(*SWAPPED)
     def test_a_swap_is_refused_in(self, swap: tuple[str, str, str]) -> None:

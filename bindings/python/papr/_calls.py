@@ -23,8 +23,13 @@ class Calls(ABC):
     def _call_by_number(self, number: int, words: Any) -> Reply:
         """Makes a call with these eight words, over which its answer is put."""
 
+    # tests/check call-table: begin
+
     def h_enter(self, flags: int, ptex: int, pteh: int, ptel: int) -> Reply:
-        """H_ENTER: puts a translation into an empty entry. The word is its index."""
+        """H_ENTER: puts a translation into the first empty entry of ptex's group, or with EXACT into entry ptex.
+
+        The word is the entry's index.
+        """
         return self._call("h_enter", self.grants.c_list, flags, ptex, pteh, ptel)
 
     def h_remove(self, flags: int, ptex: int, avpn: int) -> Reply:
@@ -48,9 +53,13 @@ class Calls(ABC):
         return self._call("h_clear_mod", flags, ptex)
 
     def h_bulk_remove(self, pairs: Iterable[int]) -> Reply:
-        """H_BULK_REMOVE: four pairs, as eight words. The words are all eight, with the responses."""
+        """H_BULK_REMOVE: empties the entries of up to four pairs.
+
+        The words are all eight, with a response instead of each request that was processed.
+        """
         given = words_of(pairs)
         return self._call("h_bulk_remove", given, len(given))
+    # tests/check call-table: end
 
     def hcall(self, number: int, *arguments: int) -> Reply:
         """A call by its number, with registers 4 to 11; those that are left out are 0."""

@@ -6,9 +6,8 @@ from functools import cache
 from pathlib import Path
 from typing import Any, NamedTuple, Optional
 
-from ._structs import BOOL, I64, SIZE, U8, U32, U64, CAccess, CBusy, CBytesEnd, CDevice, CEntry, CGrant
-from ._structs import CGrants, CMaking, CPage, CPass, CRange, CReceipt, CRehash, CReply, CResize, CSlb, CSlot
-from ._structs import CTaken, CTransfer, CWalk
+from ._functions import BYTES_FUNCTIONS, FUNCTIONS, SHARED_FUNCTIONS, Types
+from ._structs import SIZE, U8, U32, U64
 from .errors import LibraryMissing
 
 VERSION = (0, 1, 0)  # of the headers that this package was written for
@@ -28,67 +27,6 @@ class Home(NamedTuple):
 CHECKOUT = Home("bindings/python/papr", ("VERSION", "tools/build"), "out/lib")
 PREFIX = Home("share/papr/papr", ("bin/papr",), "lib")
 
-P = ctypes.POINTER
-TABLE = (P(CEntry), SIZE, U8)  # entries, their count, and the order
-WINDOW = (P(CEntry), SIZE, U64)  # entries, their count, and the bus address of the first page
-WORDS, RECEIPTS, BYTE_ARRAY = (P(U64), SIZE), (P(CReceipt), SIZE), (P(U8), SIZE)
-ROOM = (*WORDS, *RECEIPTS)
-GRANTS, PASS = P(CGrants), P(CPass)
-
-Types = tuple[Any, ...]
-
-# Each function's result, and its parameters.
-FUNCTIONS: dict[str, tuple[Any, Types]] = {
-    "papr_version": (U32, ()),
-    "papr_make_grants": (CMaking, (P(CGrant), SIZE, U64, U8, GRANTS)),
-    "papr_machine_of": (CRange, (GRANTS, U64, U64)),
-    "papr_h_enter": (CReply, (*TABLE, GRANTS, U64, U64, U64, U64, *ROOM)),
-    "papr_h_remove": (CReply, (*TABLE, U64, U64, U64, *ROOM)),
-    "papr_h_protect": (CReply, (*TABLE, U64, U64, U64, *ROOM)),
-    "papr_h_read": (CReply, (*TABLE, U64, U64, *ROOM)),
-    "papr_h_clear_ref": (CReply, (*TABLE, U64, U64, *ROOM)),
-    "papr_h_clear_mod": (CReply, (*TABLE, U64, U64, *ROOM)),
-    "papr_h_bulk_remove": (CReply, (*TABLE, *WORDS, *ROOM)),
-    "papr_hcall": (CReply, (*TABLE, GRANTS, U64, P(U64), *RECEIPTS)),
-    "papr_walk": (CWalk, (*TABLE, P(CAccess), *RECEIPTS)),
-    "papr_probe": (CWalk, (*TABLE, P(CAccess))),
-    "papr_decode": (CPage, (U8, U64, U64, U64)),
-    "papr_rights": (U8, (U8, BOOL)),
-    "papr_take_changed": (CTaken, (*TABLE, U32, P(U32), SIZE)),
-    "papr_rehash": (CRehash, (*TABLE, *TABLE)),
-    "papr_resize_prepare": (I64, (P(CResize), U8, U64, U64, P(CEntry), SIZE)),
-    "papr_resize_commit": (CRehash, (P(CResize), *TABLE, P(CEntry), SIZE, U64, U64)),
-    "papr_slb_mte": (U32, (P(CSlb), U64, U64)),
-    "papr_slb_clear": (None, (P(CSlb),)),
-    "papr_slb_find": (CSlot, (P(CSlb), U64)),
-    "papr_put_tce": (CReply, (*WINDOW, GRANTS, U64, U64, *RECEIPTS)),
-    "papr_get_tce": (CReply, (*WINDOW, U64, *ROOM)),
-    "papr_device": (CDevice, (*WINDOW, GRANTS, U64, BOOL, *RECEIPTS)),
-    "papr_export": (CTransfer, (*TABLE, U8, SIZE, SIZE, *BYTE_ARRAY)),
-    "papr_import": (CTransfer, (*TABLE, GRANTS, U8, SIZE, SIZE, *BYTE_ARRAY)),
-}
-SHARED_FUNCTIONS: dict[str, tuple[Any, Types]] = {
-    "papr_open": (I64, (P(CEntry), SIZE, U8, U32, PASS)),
-    "papr_split": (I64, (PASS, PASS)),
-    "papr_join": (I64, (PASS, PASS)),
-    "papr_close": (I64, (PASS, P(CEntry), SIZE)),
-    "papr_try_h_enter": (CReply, (PASS, GRANTS, U64, U64, U64, U64, *ROOM)),
-    "papr_try_h_remove": (CReply, (PASS, U64, U64, U64, *ROOM)),
-    "papr_try_h_protect": (CReply, (PASS, U64, U64, U64, *ROOM)),
-    "papr_try_h_read": (CReply, (PASS, U64, U64, *ROOM)),
-    "papr_try_h_clear_ref": (CReply, (PASS, U64, U64, *ROOM)),
-    "papr_try_h_clear_mod": (CReply, (PASS, U64, U64, *ROOM)),
-    "papr_try_h_bulk_remove": (CReply, (PASS, *WORDS, *ROOM)),
-    "papr_try_hcall": (CReply, (PASS, GRANTS, U64, P(U64), *RECEIPTS)),
-    "papr_again": (CReply, (PASS, *ROOM)),
-    "papr_try_walk": (CWalk, (PASS, P(CAccess), *RECEIPTS)),
-    "papr_walk_again": (CWalk, (PASS, *RECEIPTS)),
-    "papr_held_up": (CBusy, (PASS,)),
-    "papr_give_up": (None, (PASS,)),
-}
-BYTES_FUNCTIONS: dict[str, tuple[Any, Types]] = {
-    "papr_bytes_call": (CBytesEnd, BYTE_ARRAY * 5),
-}
 WIDTHS = {U8: 8, U32: 32, U64: 64, SIZE: 8 * ctypes.sizeof(SIZE)}  # in bits
 
 

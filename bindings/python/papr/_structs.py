@@ -1,17 +1,12 @@
-"""The structs of papr.h, papr_shared.h and papr_bytes.h. Nothing else in Python declares them."""
+"""The structs of papr.h, papr_shared.h and papr_bytes.h, for ctypes.
+
+Written from them by `tests/check declarations --write`: change nothing here. Nothing else in Python declares them.
+"""
 
 import ctypes
-from typing import NamedTuple, TypeVar
 
-U8, U32, U64, I64, SIZE, BOOL = (
-    ctypes.c_uint8,
-    ctypes.c_uint32,
-    ctypes.c_uint64,
-    ctypes.c_int64,
-    ctypes.c_size_t,
-    ctypes.c_bool,
-)
-Struct = TypeVar("Struct", bound=ctypes.Structure)
+U8, U32, U64 = ctypes.c_uint8, ctypes.c_uint32, ctypes.c_uint64
+I64, SIZE, BOOL = ctypes.c_int64, ctypes.c_size_t, ctypes.c_bool
 
 
 class CEntry(ctypes.Structure):
@@ -28,23 +23,10 @@ class CEntry(ctypes.Structure):
     ]
 
 
-class CTaken(ctypes.Structure):
-    """struct papr_taken"""
-
-    _fields_ = [("rc", I64), ("count", U32), ("next", U32)]
-
-
 class CReceipt(ctypes.Structure):
     """struct papr_receipt"""
 
-    _fields_ = [
-        ("dword0", U64),
-        ("dword1", U64),
-        ("entry", U32),
-        ("stamp", U32),
-        ("bits", U8),
-        ("answer", U8),
-    ]
+    _fields_ = [("dword0", U64), ("dword1", U64), ("entry", U32), ("stamp", U32), ("bits", U8), ("answer", U8)]
 
 
 class CReply(ctypes.Structure):
@@ -132,6 +114,12 @@ class CPage(ctypes.Structure):
     ]
 
 
+class CTaken(ctypes.Structure):
+    """struct papr_taken"""
+
+    _fields_ = [("rc", I64), ("count", U32), ("next", U32)]
+
+
 class CRehash(ctypes.Structure):
     """struct papr_rehash"""
 
@@ -193,13 +181,3 @@ class CBytesEnd(ctypes.Structure):
     """struct papr_bytes_end"""
 
     _fields_ = [("status", U32), ("length", U64)]
-
-
-def struct_of(kind: type[Struct], record: NamedTuple) -> Struct:
-    """A record as a struct. A number that its field doesn't hold is refused; ctypes alone would cut it."""
-    values = record._asdict()
-    made = kind(**values)
-    for name, value in values.items():
-        if getattr(made, name) != value:
-            raise OverflowError(f"{name} of a {type(record).__name__} can't be {value:#x}")
-    return made

@@ -22,6 +22,7 @@ class Code(IntEnum):
 class Hcall(IntEnum):
     """The numbers of the calls on entries, as register 3 has them."""
 
+    # tests/check call-table: begin
     H_REMOVE = 0x04
     H_ENTER = 0x08
     H_READ = 0x0C
@@ -29,6 +30,7 @@ class Hcall(IntEnum):
     H_CLEAR_REF = 0x14
     H_PROTECT = 0x18
     H_BULK_REMOVE = 0x124
+    # tests/check call-table: end
 
 
 class Flag(IntFlag):

@@ -4,10 +4,10 @@ from collections.abc import Iterable, Iterator
 from typing import Optional
 
 from ._library import function
-from ._structs import CGrant, CGrants, struct_of
+from ._structs import CGrant, CGrants
 from .codes import GrantRefusal
 from .errors import GrantRefused
-from .records import Grant, Range
+from .records import Grant, Range, struct_of
 
 POOL_BASE, POOL_ORDER = 0x10_0000_0000, 24
 

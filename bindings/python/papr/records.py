@@ -1,6 +1,7 @@
 """What goes into the calls and comes out of them: named tuples, as rows of a database are."""
 
-from typing import NamedTuple
+from ctypes import Structure
+from typing import NamedTuple, TypeVar
 
 from ._structs import CBusy, CEntry, CPage, CReceipt, CRehash, CSlot
 from .codes import Answer, Cause, Code, Decoding, DeviceOutcome, Hold, Outcome, Right, Want
@@ -8,13 +9,15 @@ from .codes import Answer, Cause, Code, Decoding, DeviceOutcome, Hold, Outcome, 
 REFERENCED, CHANGED = 2, 1  # R and C in the bits of a receipt
 R_OF_DWORD1, C_OF_DWORD1 = 0x100, 0x80
 
+Struct = TypeVar("Struct", bound=Structure)
+
 
 class Entry(NamedTuple):
     """An entry of a table; all zero is an empty one."""
 
     dword0: int
     dword1: int  # with R and C clear
-    stamp: int  # how often calls entered, removed or protected it, or cleared its R or C
+    stamp: int  # how often calls entered, removed or protected it, or cleared R or C, set or not
     valid: bool
     referenced: bool
     changed: bool
@@ -226,3 +229,13 @@ def page_of(it: CPage) -> Page:
         it.referenced,
         it.changed,
     )
+
+
+def struct_of(kind: type[Struct], record: NamedTuple) -> Struct:
+    """A record as a struct. A number that its field doesn't hold is refused; ctypes alone would cut it."""
+    values = record._asdict()
+    made = kind(**values)
+    for name, value in values.items():
+        if getattr(made, name) != value:
+            raise OverflowError(f"{name} of a {type(record).__name__} can't be {value:#x}")
+    return made

@@ -13,11 +13,11 @@ from ._library import function
 from ._opened import Opened, PassOut
 from ._owned import NotCopied
 from ._room import Room
-from ._structs import CAccess, CPass, CWalk, struct_of
+from ._structs import CAccess, CPass, CWalk
 from .codes import Code, Hold
 from .errors import Busy, PassRefused
 from .grants import Grants
-from .records import Access, HeldUp, Reply, Walk, held_up_of
+from .records import Access, HeldUp, Reply, Walk, held_up_of, struct_of
 from .table import Table
 
 MOST_PASSES = 63  # the library has 64 shares, and the table keeps one

@@ -8,12 +8,12 @@ from typing import Any, Optional
 from ._calls import Calls
 from ._library import function
 from ._room import Room
-from ._structs import U8, U32, CAccess, CEntry, CResize, struct_of
+from ._structs import U8, U32, CAccess, CEntry, CResize
 from .codes import Code, Layout, Right, TransferRefusal
 from .errors import TransferRefused
 from .grants import Grants, grants_of
 from .records import Access, Entry, Grant, Page, Rehash, Reply, Taken, Walk
-from .records import entry_of, page_of, rehash_of
+from .records import entry_of, page_of, rehash_of, struct_of
 
 ORDERS = range(18, 35)
 AN_ENTRY = 16  # bytes, in a guest's table and in an export

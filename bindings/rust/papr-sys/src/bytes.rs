@@ -1,4 +1,4 @@
-//! `papr_bytes.h`: the whole program as one function.
+//! The struct and the numbers of `papr_bytes.h`, with its names.
 
 /// What a call answers.
 #[repr(C)]
@@ -26,19 +26,3 @@ pub const PAPR_BYTES_NO_MEMORY: u32 = 5;
 pub const PAPR_BYTES_NOT_GOOD: u32 = 6;
 /// The buffer is too small: it is unchanged, and `length` is the size that is needed.
 pub const PAPR_BYTES_NO_ROOM: u32 = 7;
-
-extern "C" {
-    /// Calls the program with at most three arguments; an argument of length 0 is left out.
-    pub fn papr_bytes_call(
-        first: *const u8,
-        first_length: usize,
-        second: *const u8,
-        second_length: usize,
-        third: *const u8,
-        third_length: usize,
-        input: *const u8,
-        input_length: usize,
-        place: *mut u8,
-        room: usize,
-    ) -> papr_bytes_end;
-}

@@ -10,16 +10,24 @@
 
 #[cfg(feature = "bytes")]
 mod bytes;
+#[cfg(feature = "bytes")]
+mod bytes_functions;
 mod codes;
 mod functions;
 #[cfg(feature = "shared")]
 mod shared;
+#[cfg(feature = "shared")]
+mod shared_functions;
 mod structs;
 
 #[cfg(feature = "bytes")]
 pub use bytes::*;
+#[cfg(feature = "bytes")]
+pub use bytes_functions::*;
 pub use codes::*;
 pub use functions::*;
 #[cfg(feature = "shared")]
 pub use shared::*;
+#[cfg(feature = "shared")]
+pub use shared_functions::*;
 pub use structs::*;

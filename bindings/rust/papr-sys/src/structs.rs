@@ -8,7 +8,7 @@ pub struct papr_entry {
     pub dword0: u64,
     /// Doubleword 1, with R and C clear.
     pub dword1: u64,
-    /// How often calls entered, removed or protected it, or cleared its R or C.
+    /// How often calls entered, removed or protected it, or cleared R or C, set or not.
     pub stamp: u32,
     /// Whether it is valid.
     pub valid: bool,

@@ -11,8 +11,8 @@ use std::process::Command;
 const HEADERS: [&str; 3] = ["papr.h", "papr_shared.h", "papr_bytes.h"];
 const FUNCTIONS: [&str; 3] = [
     include_str!("../src/functions.rs"),
-    include_str!("../src/shared.rs"),
-    include_str!("../src/bytes.rs"),
+    include_str!("../src/shared_functions.rs"),
+    include_str!("../src/bytes_functions.rs"),
 ];
 const CODES: [&str; 3] = [
     include_str!("../src/codes.rs"),

@@ -63,7 +63,7 @@ impl fmt::Display for Answer {
 pub struct Receipt {
     /// The index of the entry.
     pub entry: u32,
-    /// How often calls had entered, removed or protected it, or cleared its R or C.
+    /// How often calls had entered, removed or protected it, or cleared R or C, set or not.
     pub stamp: u32,
     /// R.
     pub referenced: bool,

@@ -135,6 +135,8 @@ impl Table {
         Reply::new(raw, words, receipts)
     }
 
+    // tests/check call-table: begin
+
     /// H_ENTER: puts a translation into the first empty entry of ptex's group, or with
     /// [`flags::EXACT`](crate::flags::EXACT) into entry ptex. The word is the entry's index.
     pub fn h_enter(&mut self, flags: u64, ptex: u64, pteh: u64, ptel: u64) -> Reply {
@@ -250,8 +252,8 @@ impl Table {
         })
     }
 
-    /// H_BULK_REMOVE of four pairs. The words are all eight, with a response instead of each
-    /// request that was processed.
+    /// H_BULK_REMOVE: empties the entries of up to four pairs. The words are all eight, with a
+    /// response instead of each request that was processed.
     pub fn h_bulk_remove(&mut self, pairs: &[u64; WORDS]) -> Reply {
         // SAFETY: all that is lent is ours, of the given lengths, and nothing overlaps.
         self.call(|it| unsafe {
@@ -268,6 +270,7 @@ impl Table {
             )
         })
     }
+    // tests/check call-table: end
 
     /// A call by its number, with registers 4 to 11: one of those above.
     pub fn hcall(&mut self, number: u64, args: [u64; WORDS]) -> Reply {

@@ -119,6 +119,8 @@ impl Pass {
         }
     }
 
+    // tests/check call-table: begin
+
     /// H_ENTER: puts a translation into the first empty entry of ptex's group, or with
     /// [`flags::EXACT`](crate::flags::EXACT) into entry ptex. The word is the entry's index.
     pub fn h_enter(&mut self, flags: u64, ptex: u64, pteh: u64, ptel: u64) -> Result<Reply, Busy> {
@@ -214,8 +216,8 @@ impl Pass {
         })
     }
 
-    /// H_BULK_REMOVE of four pairs. The words are all eight, with a response instead of each
-    /// request that was processed.
+    /// H_BULK_REMOVE: empties the entries of up to four pairs. The words are all eight, with a
+    /// response instead of each request that was processed.
     pub fn h_bulk_remove(&mut self, pairs: &[u64; WORDS]) -> Result<Reply, Busy> {
         // SAFETY: all that is lent is ours, of the given lengths, and nothing overlaps.
         self.call(|it| unsafe {
@@ -230,6 +232,7 @@ impl Pass {
             )
         })
     }
+    // tests/check call-table: end
 
     /// A call by its number, with registers 4 to 11: one of those above.
     pub fn hcall(&mut self, number: u64, args: [u64; WORDS]) -> Result<Reply, Busy> {

@@ -1,0 +1,1 @@
+"""What the headers and the table of calls declare, and what is written from them."""

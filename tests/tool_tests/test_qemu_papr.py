@@ -8,7 +8,7 @@ import shutil
 from collections import Counter
 from pathlib import Path
 
-from .support import DATA, TOOLS, ToolTest, for_each, needs, run
+from .support import DATA, DOCS, TOOLS, ToolTest, for_each, needs, run
 
 OWN = TOOLS / "qemu-papr"
 PUT_IN = OWN / "put-in"
@@ -133,6 +133,25 @@ class Applied(TreeTest):
         message = f"put-in: {self.tree}/hw/ppc/spapr_hcall.c has papr already"
         self.assert_refused(run(PUT_IN, self.tree), message)
         self.assertEqual(self.files(), before)
+
+
+class Options(ToolTest):
+    """The options of the machine."""
+
+    def test_the_document_has_each_of_them_and_no_other(self) -> None:
+        text = (OWN / "papr-modes.c").read_text(encoding="utf-8")
+        added = set(re.findall(r'(?:add_(?:switch|word)|object_property_add_\w+)\(machine, "([a-z-]+)"', text))
+        page = (DOCS / "QEMU.md").read_text(encoding="utf-8")
+        table = page.partition("## Options of the machine")[2].partition("\n## ")[0]
+        self.assertEqual(set(re.findall(r"(?<=[` ])(papr(?:-[a-z]+)*)(?:=[A-Za-z]+)?`", table)), added)
+
+    def test_a_call_waits_for_all_processors_unless_late_writes_are_asked_for(self) -> None:
+        text = (OWN / "papr-answer.c").read_text(encoding="utf-8")
+        late = r"if \(papr_options.late_writes\)\s+tlb_flush_all_cpus\(cs\);\s+else\s+tlb_flush_all_cpus_synced\(cs\);"
+        self.assertRegex(text, late)
+        begins = re.findall(r"struct papr_options papr_options = \{(.*)\};", (OWN / "papr-modes.c").read_text())
+        self.assertEqual(len(begins), 1)
+        self.assertNotIn("late_writes", begins[0])
 
 
 class Refusals(TreeTest):

@@ -1,149 +1,17 @@
-"""Tests of the tool that makes traces with replies of recordings.
+"""Tests of the tool that makes traces with replies of recordings."""
 
-A recording is written here word by word, as the head of papr-record.h describes it; or by QEMU's files for papr, which
-four threads use without a QEMU.
-"""
-
-import shutil
-import struct
-from pathlib import Path
-from typing import Sequence
-
-from .support import DATA, EXAMPLES, LIBRARY, SHARED_TABLE, TOOLS, TOP, Ran, ToolTest, for_each, needs
+from .made_recordings import AT, ENTERED, FETCH, FRAME, HEAD, H_BULK_REMOVE, H_PROTECT, H_REMOVE, JUDGE
+from .made_recordings import LOAD, MARK, MASKS, NO_PAGE, PAGE, PREPARE, SEGMENT, STORE, USER, WALK
+from .made_recordings import Recording, RecordingTest, ThreadsTest, enter, no_match, receipt, two_parts
+from .support import DATA, EXAMPLES, TOOLS, Ran, ToolTest, for_each, needs
 from .support import needs_library, needs_program, needs_shared_table, run
 
-OWN = TOOLS / "qemu-papr"
-JUDGE, BAD_LINE = OWN / "judge-recording", TOOLS / "bad-line"
-THREADS = DATA / "qemu-papr" / "threads"
+BAD_LINE = TOOLS / "bad-line"
 # The first records of parts of two boots; the heads have the entries that occur.
 RECORDED = DATA / "qemu-papr" / "recorded"
-HEADERS = ("qemu/error-report.h", "qemu/thread.h", "qemu/atomic.h", "qemu/timer.h", "cpu.h", "hw/ppc/spapr.h")
-CALL, WALK, MASKS, MARK, PART = range(1, 6)
-H_REMOVE, H_ENTER, H_PROTECT, H_BULK_REMOVE, PREPARE, COMMIT = 0x04, 0x08, 0x18, 0x124, 0x36C, 0x370
-ANSWERS = "entered taken removed protected was read notfound nomatch denied at worn masked".split()
-LOAD, STORE, FETCH = range(3)
-AT, DENIED, NO_PAGE = range(3)
-USER = 1 << 40
 
 # Planted errors: a receipt that is dropped, words of another processor, and a walk that is repeated when it is stale.
 DROPPED, EXCHANGED, STALE = 1, 2, 3
-
-# A segment of 256 MB with VSID 1, its page 5, and the entries of the page's groups in a table of order 18.
-SEGMENT, PAGE, FRAME = 0x1000, 0x5000, 0x3000
-PRIMARY, SECONDARY = range(0x20, 0x28), range(0x3FD8, 0x3FE0)
-HEAD = """order 18
-limit 22
-cpus 2
-ram 0x0 0x2000000000 0x40000000
-begin
-"""
-
-
-def receipt(text: str) -> int:
-    """The word of a receipt, which is written as replies show it."""
-    entry, stamp, bits, answer = text.split(".")
-    return ANSWERS.index(answer) << 60 | int(bits) << 56 | int(stamp) << 24 | int(entry, 16)
-
-
-class Recording:
-    """A recording with two actors, in the order in which its records were made."""
-
-    def __init__(self) -> None:
-        """Nothing yet."""
-        self.words: list[list[int]] = [[], []]
-        self.heads: list[str] = []
-        self.clock = self.marks = 0
-
-    def put(self, actor: int, header: int, words: Sequence[int], receipts: str = "", late: int = 0) -> None:
-        """One record; the clock may be read late."""
-        made = [receipt(text) for text in receipts.split()]
-        self.clock += 10
-        self.words[actor] += [header | len(made) << 8, self.clock + late, *words, *made]
-
-    def part(self, head: str = HEAD) -> None:
-        """A new part."""
-        self.heads.append(head)
-        for actor in range(2):
-            self.put(actor, PART, [len(self.heads)])
-
-    def mark(self) -> None:
-        """A quiet point."""
-        self.marks += 1
-        for actor in range(2):
-            self.put(actor, MARK, [self.marks])
-
-    def call(
-        self,
-        actor: int,
-        number: int,
-        args: Sequence[int],
-        code: int,
-        told: Sequence[int] = (),
-        receipts: str = "",
-        late: int = 0,
-    ) -> None:
-        """A call, with its code and words."""
-        words = [number, code % 2**64, *args, *[0] * (8 - len(args)), *told]
-        self.put(actor, CALL | len(told) << 16, words, receipts, late)
-
-    def walk(self, actor: int, want: int, ea: int, outcome: int, receipts: str, mode: int = 0, late: int = 0) -> None:
-        """A walk in the segment."""
-        logical = FRAME + ea % 4096 if outcome == AT else 0
-        header = WALK | outcome << 16 | want << 24 | 12 << 32 | mode
-        self.put(actor, header, [ea, SEGMENT, logical], receipts, late)
-
-    def quiet(self, actor: int, number: int, shift: int, code: int) -> None:
-        """A resize call, alone."""
-        self.mark()
-        self.call(actor, number, [0, shift], code)
-        self.mark()
-
-    def write(self, folder: Path) -> None:
-        """The files of the recording."""
-        for number, head in enumerate(self.heads, 1):
-            (folder / f"part-{number}.head").write_text(head, encoding="ascii")
-        for actor, words in enumerate(self.words):
-            (folder / f"actor-{actor}").write_bytes(struct.pack(f"={len(words)}Q", *words))
-
-
-def no_match(stamp: int) -> str:
-    """The receipts of a walk that finds nothing; the first entry has changed so often."""
-    entries = [*PRIMARY, *SECONDARY]
-    return " ".join(f"{entry:#x}.{stamp if entry == PRIMARY[0] else 0}.0.nomatch" for entry in entries)
-
-
-def enter(recording: Recording, late: int = 0) -> None:
-    """An H_ENTER of the page by actor 0."""
-    recording.call(0, H_ENTER, [0, 0x20, 0x1001, 0x3012], 0, [0x20], "0x20.0.0.entered", late)
-
-
-class RecordingTest(ToolTest):
-    """A test of a recording."""
-
-    def setUp(self) -> None:
-        """Makes its folders, and begins its first part."""
-        super().setUp()
-        self.recorded, self.parts = self.folder / "recorded", self.folder / "parts"
-        self.recorded.mkdir()
-        self.parts.mkdir()
-        self.it = Recording()
-        self.it.part()
-
-    def convert(self, *words: str) -> Ran:
-        """Writes the recording, and runs the tool on it."""
-        self.it.write(self.recorded)
-        return run(JUDGE, self.recorded, "--parts", self.parts, *words)
-
-    def text(self, kind: str, part: int = 1) -> str:
-        """A part's trace behind its head, or its replies."""
-        text = (self.parts / f"part-{part}.{kind}").read_text(encoding="ascii")
-        return text.partition("begin\n")[2] if kind == "trace" else text
-
-    def assert_written(self, trace: str, replies: str) -> None:
-        """What is made of the recording."""
-        self.assert_ran(self.convert("--unjudged"), out=None)
-        self.assert_text(self.text("trace"), trace)
-        self.assert_text(self.text("replies"), replies)
 
 
 class Lines(RecordingTest):
@@ -198,8 +66,7 @@ class Lines(RecordingTest):
     def test_a_part_has_caches_of_its_own(self) -> None:
         enter(self.it)
         self.it.walk(1, LOAD, PAGE, AT, "0x20.1.0.at")
-        entry = "entry old 0x20 00000000000010010000000000003112\n"
-        self.it.part(HEAD.replace("begin", f"{entry}begin"))
+        self.it.part(HEAD.replace("begin", f"{ENTERED}begin"))
         self.it.walk(1, LOAD, PAGE, AT, "0x20.0.2.at")
         self.assert_ran(self.convert("--unjudged"), out=None)
         self.assert_text(self.text("replies", 2), "7 1 slbmte ok\n8 1 load at 0x2000003000 walk | 0x20.0.2.at\n")
@@ -315,22 +182,8 @@ class Pieces(ToolTest):
 class Judged(RecordingTest):
     """What the program says of the traces that are made."""
 
-    def whole(self) -> None:
-        """Two processors, a stale translation that is noticed, a resize, and a second part."""
-        enter(self.it)
-        self.it.walk(1, LOAD, PAGE, AT, "0x20.1.0.at")
-        self.it.walk(1, STORE, PAGE, AT, "0x20.1.2.at")
-        self.it.call(0, H_REMOVE, [0, 0x20, 0], 0, [0x1001, 0x3192], receipts="0x20.1.3.removed")
-        self.it.walk(1, LOAD, PAGE, NO_PAGE, no_match(2))
-        self.it.quiet(0, PREPARE, 18, 0)
-        self.it.quiet(1, COMMIT, 18, 0)
-        enter(self.it)
-        self.it.walk(1, LOAD, PAGE, AT, "0x20.1.0.at")
-        self.it.part(HEAD.replace("begin", "entry old 0x20 00000000000010010000000000003112\nbegin"))
-        self.it.walk(0, LOAD, PAGE, AT, "0x20.0.2.at")
-
     def test_a_good_recording(self) -> None:
-        self.whole()
+        two_parts(self.it)
         text = (
             "part 1: 10 lines, 4 sections, 5 calls, 3 walks, 1 hits, 1 segments: good\n"
             "part 2: 2 lines, 1 sections, 0 calls, 1 walks, 0 hits, 1 segments: good\n"
@@ -339,7 +192,7 @@ class Judged(RecordingTest):
 
     def spoil(self, old: str, new: str) -> Ran:
         """What the tool says where one receipt of the whole is another."""
-        self.whole()
+        two_parts(self.it)
         words = self.it.words[int(new[0])]
         words[words.index(receipt(old))] = receipt(new[2:])
         return self.convert()
@@ -359,23 +212,8 @@ class Judged(RecordingTest):
 @needs_library
 @needs("cc")
 @needs_shared_table
-class Threads(ToolTest):
+class Threads(ThreadsTest):
     """Recordings of four threads that call and walk at once."""
-
-    def setUp(self) -> None:
-        """Compiles the program, with empty files in the place of QEMU's headers."""
-        super().setUp()
-        for name in HEADERS:
-            (self.folder / name).parent.mkdir(parents=True, exist_ok=True)
-            (self.folder / name).touch()
-        shutil.copy(OWN / "papr-hooks.h", self.folder / "hw" / "ppc")
-        self.program, self.recorded, self.parts = (self.folder / name for name in ("threads", "recorded", "parts"))
-        self.recorded.mkdir()
-        self.parts.mkdir()
-        flags = [f"-I{folder}" for folder in (self.folder, THREADS, OWN, TOP / "include")]
-        sources = [THREADS / "threads.c", OWN / "papr-table.c", OWN / "papr-record.c", LIBRARY, SHARED_TABLE]
-        words = ("-O1", "-Wall", "-Wextra", "-Werror", *flags, "-o")
-        self.assert_ran(run("cc", *words, self.program, *sources, "-lpthread"))
 
     def record(self, lock: int, plant: int, turns: int) -> Ran:
         """What the program says of its recording, which the tool has judged."""
@@ -426,10 +264,31 @@ class Words(RecordingTest):
         message = f"judge-recording: {EXAMPLES} is no recording: it has no actor-0"
         self.assert_refused(run(JUDGE, EXAMPLES), message)
 
-    def test_a_record_that_is_cut_off(self) -> None:
+    def test_a_record_that_is_cut_off_before_the_end(self) -> None:
         enter(self.it)
         self.it.words[0].pop()
-        self.assert_refused(self.convert("--unjudged"), "judge-recording: actor-0: its last record is cut off")
+        self.assert_refused(self.convert("--unjudged"), "judge-recording: actor-0: word 17 begins no record")
+
+    def test_a_part_that_does_not_begin_where_its_head_says(self) -> None:
+        self.it = Recording(has_places=True)
+        self.it.part()
+        enter(self.it)
+        self.it.part()
+        self.it.words[0][3:6] = []
+        self.assert_refused(self.convert("--unjudged"), "judge-recording: actor-0: part 2 doesn't begin at word 17")
+
+    def test_a_head_that_is_not_ascii(self) -> None:
+        enter(self.it)
+        self.it.end()
+        self.it.write(self.recorded)
+        head = self.recorded / "part-1.head"
+        head.write_bytes(b"# \xa4\n" + head.read_bytes())
+        message = "judge-recording: part-1.head isn't ASCII: byte 2 is 0xa4"
+        self.assert_refused(run(JUDGE, self.recorded, "--unjudged"), message)
+
+    def test_a_part_that_is_not_there(self) -> None:
+        message = f"judge-recording: {self.recorded} has no part 2"
+        self.assert_refused(self.convert("--unjudged", "--first", "2"), message)
 
     def test_a_word_that_begins_no_record(self) -> None:
         self.it.words[1].append(99)

@@ -180,14 +180,14 @@ void papr_answer_saved(void)
 
 /* ---- calls on entries */
 
-/* The processors drop what they have cached: those that are running soon, or before this one goes on. */
+/* The processors drop what they have cached: before this one goes on, or soon. */
 static void drop_translations(CPUState *cs)
 {
     counts[cs->cpu_index].drops++;
-    if (papr_options.waits)
-        tlb_flush_all_cpus_synced(cs);
-    else
+    if (papr_options.late_writes)
         tlb_flush_all_cpus(cs);
+    else
+        tlb_flush_all_cpus_synced(cs);
 }
 
 /* The global lock keeps a reset and a migration away. */

@@ -12,7 +12,7 @@
 #define PLANT_AFTER 1000        /* calls of an actor before an error is planted */
 #define COUNTED_AT_ONCE 256     /* records of an actor */
 
-enum kind { CALL = 1, WALK = 2, MASKS = 3, MARK = 4, PART = 5 };
+enum kind { CALL = 1, WALK = 2, MASKS = 3, MARK = 4, PART = 5, THE_END = 6 };
 
 struct actor {
     FILE *file;
@@ -32,12 +32,16 @@ static uint8_t limit_of_part;
 
 /* ---- words */
 
+static void fail(void)
+{
+    error_report("papr: the recording can't be written: %s", strerror(errno));
+    exit(1);
+}
+
 static void put(struct actor *a, const uint64_t *words, size_t count)
 {
-    if (fwrite_unlocked(words, sizeof *words, count, a->file) != count) {
-        error_report("papr: the recording can't be written: %s", strerror(errno));
-        exit(1);
-    }
+    if (fwrite_unlocked(words, sizeof *words, count, a->file) != count)
+        fail();
 }
 
 static void put_two(struct actor *a, enum kind kind, uint64_t first, uint64_t second)
@@ -74,6 +78,14 @@ static void mark_all(enum kind kind, uint64_t number)
         put_two(&actors[i], kind, number, 0);
 }
 
+/* So that what was recorded so far can be read, however QEMU ends. */
+static void flush_all(void)
+{
+    for (unsigned i = 0; i < actor_count; i++)
+        if (fflush(actors[i].file) != 0)
+            fail();
+}
+
 static FILE *open_file(const char *name)
 {
     g_autofree char *path = g_build_filename(papr_options.record, name, NULL);
@@ -93,6 +105,15 @@ static void open_actors(unsigned wanted)
         a->file = open_file(name);
         setvbuf(a->file, NULL, _IOFBF, BUFFER);
     }
+}
+
+/* Where each actor's records of the part begin. */
+static void write_places(FILE *head)
+{
+    fprintf(head, "# begins at");
+    for (unsigned i = 0; i < actor_count; i++)
+        fprintf(head, " %" PRIu64, (uint64_t)ftello(actors[i].file) / sizeof(uint64_t));
+    fprintf(head, "\n");
 }
 
 static void write_head(FILE *head, const struct papr_rest *rest, const struct papr_grants *grants)
@@ -116,7 +137,9 @@ static FILE *begin_head(unsigned wanted)
 {
     open_actors(wanted);
     g_autofree char *name = g_strdup_printf("part-%" PRIu64 ".head", ++part);
-    return open_file(name);
+    FILE *head = open_file(name);
+    write_places(head);
+    return head;
 }
 
 static void begin_part(FILE *head)
@@ -124,6 +147,7 @@ static void begin_part(FILE *head)
     if (fclose(head) != 0)
         error_report("papr: part %" PRIu64 " of the recording can't be written: %s", part, strerror(errno));
     mark_all(PART, part);
+    flush_all();
     for (unsigned i = 0; i < actor_count; i++)
         actors[i].made = actors[i].amr = actors[i].iamr = actors[i].stale_count = 0;
     qatomic_set(&all_made, 0);
@@ -278,8 +302,10 @@ bool papr_record_walk(unsigned actor, uint64_t slb, enum papr_record_flags flags
     return is_full(a);
 }
 
-void papr_record_end(void)
+void papr_record_end(bool is_at_rest)
 {
+    if (is_at_rest)
+        mark_all(THE_END, 0);
     for (unsigned i = 0; i < actor_count; i++)
         if (fflush(actors[i].file) != 0)
             error_report("papr: the recording can't be written: %s", strerror(errno));

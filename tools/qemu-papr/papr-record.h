@@ -2,10 +2,10 @@
  * Recording what a table answers, which is papr's or QEMU's own: each actor writes its calls and walks, with their
  * receipts, into a buffer of its own. judge-recording makes of a recording traces with replies, which `papr check` judges.
  *
- * A recording is a folder. It has `part-N.head`, the configuration of a trace as text, for each part, and
- * `actor-N`, words of 64 bits in the host's order, for each actor. No trace has a table above order 22: in a part
- * where there is one, or one is prepared, the actors record nothing, and its head is `unrecorded` with the order. A
- * record of an actor is
+ * A recording is a folder. It has `part-N.head`, the configuration of a trace as text, for each part, and `actor-N`,
+ * words of 64 bits in the host's order, for each actor. The first line of a head says at which word of each actor the
+ * part begins. No trace has a table above order 22: in a part where there is one, or one is prepared, the actors
+ * record nothing, and its head is `unrecorded` with the order. A record of an actor is
  *
  *   word 0    bits 0 to 7 its kind, 8 to 15 the number of its receipts
  *   word 1    the host's clock when it was made
@@ -18,7 +18,9 @@
  *   masks     AMR and IAMR of the walks from here on, which are 0 at first in each part
  *   a mark    a number, which all actors have: what is before it was made before all that is after it in
  *             any actor. A resize call is the only record between two marks
- *   a part    the part's number, in all actors
+ *   a part    the part's number, in all actors. With it all that was recorded before is written out: a part is whole
+ *             if the next one begins in all actors, or the recording ends in all
+ *   the end   0, in all actors. It is missing if QEMU was killed
  *
  * A receipt is one word: bits 0 to 23 the entry, 24 to 55 the stamp, 56 to 57 the bits, 60 to 63 the answer.
  */
@@ -46,8 +48,8 @@ void papr_record_later(void);
 /* A resize call. */
 void papr_record_quiet(unsigned actor, uint64_t number, uint64_t flags, uint64_t shift, int64_t rc);
 
-/* Writes what is buffered, at the end. */
-void papr_record_end(void);
+/* Writes what is buffered, at the end. If actors may be at work, the last part isn't whole. */
+void papr_record_end(bool is_at_rest);
 
 /* ---- each actor on its own thread; whether another part is due, which is said once */
 

@@ -9,22 +9,13 @@ from collections import Counter
 from dataclasses import dataclass, field
 from itertools import chain
 
+import hypercalls
 from common import Bad
 from papr.numbers import number
-from recordings import CALL, ENTERED, ENTRY, MASKS, NOMATCH, STAMP, WALK, WAS, Part, Record, States, in_order
-from traces import COMMIT, MOST_BYTES, MOST_LINES, PREPARE
+from recordings import CALL, ENTRY, MASKS, NOMATCH, STAMP, WALK, WAS, Part, Record, States, in_order
+from traces import MOST_BYTES, MOST_LINES
 
-CALLS: dict[int, tuple[str, int]] = {
-    0x04: ("H_REMOVE", 3),
-    0x08: ("H_ENTER", 4),
-    0x0C: ("H_READ", 2),
-    0x10: ("H_CLEAR_MOD", 2),
-    0x14: ("H_CLEAR_REF", 2),
-    0x18: ("H_PROTECT", 3),
-    0x124: ("H_BULK_REMOVE", 8),
-    0x36C: (PREPARE, 2),
-    0x370: (COMMIT, 2),
-}
+CALLS = {number: call for number, call in hypercalls.CALLS.items() if call.works_on != hypercalls.WINDOW}
 ANSWERS = (
     "entered",
     "taken",
@@ -147,16 +138,16 @@ def ranges_of(head: list[str]) -> list[Range]:
 
 def fault_of(record: Record) -> str:
     """What no line of a trace says of a record, if there is such a thing."""
-    answers = [receipt >> 60 for receipt in record.receipts]
-    if record.kind == CALL and record.number not in CALLS:
+    answers, kind = [receipt >> 60 for receipt in record.receipts], record.kind
+    if kind == CALL and record.number not in CALLS:
         return f"the call {record.number:#x}"
-    if any(answer >= len(ANSWERS) for answer in answers):
+    if max(answers, default=0) >= len(ANSWERS):
         return "a receipt without an answer"
-    if record.kind != CALL and any(ENTERED <= answer <= WAS for answer in answers):
+    if kind != CALL and answers and min(answers) <= WAS:
         return "a receipt of a call beside none"
-    if record.kind == WALK and record.header >> 24 & 0xFF >= len(WANTS):
+    if kind == WALK and record.header >> 24 & 0xFF >= len(WANTS):
         return "a walk for no access"
-    if record.kind == WALK and record.words[1] >> 62 >= len(SHIFTS):
+    if kind == WALK and record.words[1] >> 62 >= len(SHIFTS):
         return "a segment of no size"
     return ""
 
@@ -198,7 +189,7 @@ class Written:
 
     def add_call(self, record: Record) -> None:
         """A hypervisor call."""
-        name, count = CALLS[record.number]
+        name, count, _works_on = CALLS[record.number]
         asked = "".join(f" {word:#x}" for word in record.words[2 : 2 + count])
         told = "".join(f" {word:#x}" for word in record.words[10:])
         self.counts["calls"] += 1

@@ -5,11 +5,11 @@ import mmap
 import re
 from dataclasses import dataclass, field
 from pathlib import Path
-from typing import Iterator, Optional
+from typing import Iterator, Optional, Union
 
 from common import Bad
 
-CALL, WALK, MASKS, MARK, PART = range(1, 6)
+CALL, WALK, MASKS, MARK, PART, END = range(1, 7)
 RESIZE_COMMIT = 0x370
 
 ENTERED, REMOVED, PROTECTED, WAS, NOMATCH, AT = 0, 2, 3, 4, 7, 9  # answers of receipts
@@ -21,6 +21,8 @@ ENTRY, STAMP = 2**24 - 1, 2**32 - 1
 
 ENTRY_LINE = re.compile(r"entry old (0x[0-9a-f]+) [0-9a-f]{16}([0-9a-f]{16})")
 UNRECORDED = re.compile(r"unrecorded ([0-9]{1,20})")
+PLACES = re.compile(r"# begins at((?: [0-9]{1,18})+)\n")
+HEAD_ENDS, LAST_LINE = re.compile(rb"(?:begin|unrecorded [0-9]{1,20})\n\Z"), 64
 
 
 @dataclass
@@ -59,40 +61,42 @@ class Record:
         return self.kind == CALL and self.number == RESIZE_COMMIT and self.code == 0
 
 
-@dataclass
-class End:
+@dataclass(frozen=True)
+class Quiet:
     """What ends an actor's records of one section: a mark or a part with its number, or the end of all."""
 
-    kind: int = 0
-    number: int = 0
+    kind: int
+    number: int
+
+
+class Cut(Bad):
+    """An actor's records end before what was looked for."""
 
 
 class Actor:
-    """The records of one actor."""
+    """The records of one actor, as far as they are written."""
 
     def __init__(self, path: Path, number: int) -> None:
         """Opens its file."""
         self.number = number
         size = path.stat().st_size // 8 * 8
-        if size == 0:
-            raise Bad(f"{path} is empty")
         with open(path, "rb") as stream:
-            data = mmap.mmap(stream.fileno(), size, access=mmap.ACCESS_READ)
+            data: Union[mmap.mmap, bytes] = mmap.mmap(stream.fileno(), size, access=mmap.ACCESS_READ) if size else b""
         self.words = memoryview(data).cast("Q")
         self.at = 0
 
-    def section(self) -> tuple[list[Record], End]:
-        """Its records up to the next mark or part."""
+    def section(self) -> tuple[list[Record], Quiet]:
+        """Its records up to the next mark, part or end."""
         records: list[Record] = []
         while self.at < len(self.words):
             header = self.words[self.at]
             kind = header & 0xFF
-            if kind in (MARK, PART):
+            if kind in (MARK, PART, END):
+                self.check_end(self.at + 3)
                 self.at += 3
-                self.check_end(self.at)
-                return records, End(kind, self.words[self.at - 1])
+                return records, Quiet(kind, self.words[self.at - 1])
             records.append(self.record(header, kind))
-        return records, End()
+        raise Cut(f"actor-{self.number}: its last record is cut off")
 
     def record(self, header: int, kind: int) -> Record:
         """The record at the place that was come to."""
@@ -109,7 +113,18 @@ class Actor:
     def check_end(self, end: int) -> None:
         """Refuses a record that ends after the file."""
         if end > len(self.words):
-            raise Bad(f"actor-{self.number}: its last record is cut off")
+            raise Cut(f"actor-{self.number}: its last record is cut off")
+
+    def begins(self, part: int, place: int) -> bool:
+        """Whether the part is written there, as far as the file goes."""
+        found = self.words[place : place + 3]
+        if len(found) == 3 and (found[0], found[2]) != (PART, part):
+            raise Bad(f"actor-{self.number}: part {part} doesn't begin at word {place}")
+        return len(found) == 3
+
+    def has_end(self) -> bool:
+        """Whether it may have ended: its last words are those of an end."""
+        return len(self.words) >= 3 and (self.words[-3], self.words[-1]) == (END, 0)
 
 
 @dataclass
@@ -123,7 +138,7 @@ class Part:
     @property
     def unrecorded(self) -> Optional[int]:
         """The order of a table that no trace has, if therefore nothing was recorded."""
-        found = UNRECORDED.fullmatch(self.head[0]) if self.head else None
+        found = UNRECORDED.fullmatch(self.head[-1]) if self.head else None
         return int(found[1]) if found else None
 
 
@@ -137,31 +152,103 @@ def actors_of(folder: Path) -> list[Actor]:
     return actors
 
 
-def sections_of(actors: list[Actor]) -> Iterator[tuple[list[list[Record]], End]]:
-    """The records of all actors up to each quiet point, and what it is."""
-    while True:
-        found = [actor.section() for actor in actors]
-        ends = [end for _records, end in found]
-        if any(end != ends[0] for end in ends):
-            raise Bad(f"the actors' quiet points are not the same: {ends}")
-        yield [records for records, _end in found], ends[0]
-        if ends[0] == End():
-            return
+@dataclass(frozen=True)
+class Place:
+    """Where a part begins in each actor's words. After the last part comes number 0: the recording ends there."""
+
+    number: int
+    words: tuple[int, ...]
 
 
-def parts_of(folder: Path) -> Iterator[Part]:
-    """The parts of a recording, in order."""
-    part: Optional[Part] = None
-    for records, end in sections_of(actors_of(folder)):
-        if part is not None and any(records):
-            part.sections.append(records)
-        if end.kind == MARK:
-            continue
+class Recording:
+    """A recording, as far as it is written when this is made."""
+
+    def __init__(self, folder: Path) -> None:
+        """Opens it."""
+        self.folder, self.actors = folder, actors_of(folder)
+
+    def has_head(self, number: int) -> bool:
+        """Whether the head of a part is written whole."""
+        path = self.folder / f"part-{number}.head"
+        if not path.is_file():
+            return False
+        with open(path, "rb") as stream:
+            stream.seek(max(0, path.stat().st_size - LAST_LINE))
+            return HEAD_ENDS.search(stream.read()) is not None
+
+    def head(self, number: int) -> str:
+        """The head of a part."""
+        path = self.folder / f"part-{number}.head"
+        try:
+            return path.read_text(encoding="ascii")
+        except UnicodeDecodeError as error:
+            raise Bad(f"{path.name} isn't ASCII: byte {error.start} is {error.object[error.start]:#04x}") from error
+
+    def told(self, number: int) -> Optional[Place]:
+        """Where a part begins, as its head says; not all heads do."""
+        found = PLACES.match(self.head(number))
+        words = tuple(map(int, found[1].split())) if found else ()
+        if found and len(words) != len(self.actors):
+            raise Bad(f"part {number} has {len(words)} actors, but the recording {len(self.actors)}")
+        return Place(number, words) if found else None
+
+    def begins(self, part: Place) -> bool:
+        """Whether the actors have all begun a part."""
+        return all([actor.begins(part.number, word) for actor, word in zip(self.actors, part.words)])
+
+    def first(self) -> Optional[Place]:
+        """The first part, if it has begun."""
+        part = Place(1, (0,) * len(self.actors))
+        return part if self.has_head(1) and self.begins(part) else None
+
+    def find(self, number: int) -> Optional[Place]:
+        """Where a part begins, if it has begun."""
+        part = self.told(number) if self.has_head(number) else None
         if part is not None:
-            yield part
-        if end.kind == PART:
-            head = (folder / f"part-{end.number}.head").read_text(encoding="ascii")
-            part = Part(end.number, head.splitlines())
+            return part if self.begins(part) else None
+        part = self.first()
+        while part is not None and 0 < part.number < number:
+            part = self.behind(part)
+        return part if part is not None and part.number == number else None
+
+    def behind(self, part: Place) -> Optional[Place]:
+        """What comes after a part, if the part is whole."""
+        has_next = self.has_head(part.number + 1)
+        following = self.told(part.number + 1) if has_next else None
+        if following is not None:
+            return following if self.begins(following) else None
+        return self.scanned(part) if has_next or all(actor.has_end() for actor in self.actors) else None
+
+    def scanned(self, part: Place) -> Optional[Place]:
+        """The same, found by reading the part's records."""
+        try:
+            *_marks, (_records, end) = self.sections(part)
+        except Cut:
+            return None
+        return Place(end.number, tuple(actor.at - 3 for actor in self.actors))
+
+    def sections(self, part: Place) -> Iterator[tuple[list[list[Record]], Quiet]]:
+        """The records of all actors up to each quiet point of a part, and what it is."""
+        for actor, word in zip(self.actors, part.words):
+            actor.at = word + 3
+        end = Quiet(MARK, 0)
+        while end.kind == MARK:
+            found = [actor.section() for actor in self.actors]
+            ends = [own for _records, own in found]
+            end = ends[0]
+            if any(own != end for own in ends):
+                raise Bad(f"the actors' quiet points are not the same: {ends}")
+            yield [records for records, _own in found], end
+
+    def part(self, place: Place) -> Part:
+        """A part that is whole."""
+        sections = [records for records, _end in self.sections(place) if any(records)]
+        return Part(place.number, self.head(place.number).splitlines(), sections)
+
+
+def part_at(folder: Path, place: Place) -> Part:
+    """A whole part of a recording."""
+    return Recording(folder).part(place)
 
 
 class States:
@@ -178,13 +265,14 @@ class States:
     def has(self, record: Record) -> bool:
         """Whether each receipt starts from the state that its entry has then."""
         own: dict[int, int] = {}  # what the record's earlier receipts leave: a call may come back to an entry
+        places, is_call, is_beside = self.places, record.kind == CALL, record.is_beside
         for receipt in record.receipts:
             entry = receipt & ENTRY
-            before = own[entry] if entry in own else self.places.get(entry, 0)
+            before = own[entry] if entry in own else places.get(entry, 0)
             away = (before >> 2) - (receipt >> 24 & STAMP)
-            if abs(away) > record.is_beside or before & 3 != receipt >> 56 & 3:
+            if abs(away) > is_beside or before & 3 != receipt >> 56 & 3:
                 return False
-            if record.kind == CALL:
+            if is_call:
                 own[entry] = place_after(record, receipt, before)
         return True
 

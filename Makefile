@@ -23,6 +23,10 @@ PREFIX ?= /usr/local
 DESTDIR ?=
 INSTALL ?= install
 VERSION := $(shell cat VERSION)
+# Whom packages name as their maintainer, and the project's page on the web; it has none yet.
+MAINTAINER ?= Jirdomle maintainers <maintainers@users.noreply.jirdomle.example>
+HOMEPAGE ?=
+export MAINTAINER HOMEPAGE
 major = $(firstword $(subst ., ,$(VERSION)))
 
 # What is built, and the variables that name other files for it.
@@ -62,14 +66,15 @@ dist = out/dist
 
 # A tool's name behind papr-, and its file in tools/.
 tools = from-qemu:qemu-log-to-trace history:entry-history picture:run-picture receipts:receipts why:why bad-line:bad-line \
-    cut:cut-trace find-order:find-order entries:htab-to-entries decode:decode diff:diff
+    cut:cut-trace groups:groups find-order:find-order entries:htab-to-entries decode:decode diff:diff
 tool_name = $(firstword $(subst :, ,$(1)))
 tool_file = $(lastword $(subst :, ,$(1)))
 commands = $(foreach tool,$(tools),papr-$(call tool_name,$(tool)))
 tool_files = $(foreach tool,$(tools),tools/$(call tool_file,$(tool)))
-modules = $(addprefix tools/,call_steps.py certificate.py choosing.py common.py conflict.py decoding.py entry_states.py \
-    grants.py histories.py joint.py judging.py known.py numerals.py order.py processors.py refusals.py replies.py svg.py \
-    timed.py traces.py writing.py launcher.bash telling.bash)
+modules = $(addprefix tools/,allowances.py asking.py call_steps.py certificate.py choosing.py common.py conflict.py \
+    decoding.py entry_lines.py entry_states.py grants.py histories.py hypercalls.py inputs.py joint.py judging.py known.py \
+    numerals.py order.py processors.py reasons.py refusals.py replies.py svg.py timed.py traces.py wording.py writing.py \
+    launcher.bash telling.bash)
 package = $(wildcard bindings/python/papr/*.py) bindings/python/papr/py.typed
 pages = man/papr.1 $(commands:%=man/%.1)
 formats = man/papr-trace.5 man/papr-replies.5

@@ -1,7 +1,7 @@
 # shellcheck shell=bash
 # Completion of papr's commands, options and files, and of its tools by names of their own, in bash.
 
-_papr_tools='why bad-line find-order decode receipts history picture diff from-qemu entries cut'
+_papr_tools='why bad-line find-order decode receipts history picture groups diff from-qemu entries cut'
 
 # _papr_words WORD..: completes by these words.
 _papr_words() {
@@ -47,4 +47,4 @@ _papr_tool() {
 
 complete -F _papr papr
 complete -o filenames -F _papr_tool papr-from-qemu papr-history papr-picture papr-receipts papr-why papr-bad-line \
-    papr-find-order papr-cut papr-entries papr-decode papr-diff
+    papr-find-order papr-cut papr-entries papr-decode papr-groups papr-diff

@@ -1,4 +1,4 @@
-#compdef papr papr-from-qemu papr-history papr-picture papr-receipts papr-why papr-bad-line papr-find-order papr-cut papr-entries papr-decode papr-diff
+#compdef papr papr-from-qemu papr-history papr-picture papr-receipts papr-why papr-bad-line papr-find-order papr-cut papr-entries papr-decode papr-groups papr-diff
 # Completion of papr's commands, options and files, and of its tools by names of their own, in zsh.
 
 _papr_commands() {
@@ -9,13 +9,14 @@ _papr_commands() {
         'set[run partitions whose tables share one pool]' \
         'image[write the table at the end of a trace: old or new layout]' \
         'drill[run a generated trace: SEED LINES]' \
-        'why[say why a trace is refused]' \
+        'why[say why a trace is refused, or a line answered so]' \
         'bad-line[find the first line whose reply is wrong]' \
         'find-order[judge replies without receipts]' \
         'decode[explain entries, receipts or replies]' \
         'receipts[write receipts as a table]' \
         'history[draw the history of one entry]' \
         'picture[draw a whole run]' \
+        'groups[say which groups are fullest]' \
         'diff[compare two texts of replies]' \
         'from-qemu[make a trace of a log of QEMU]' \
         'entries[open a trace with a table of KVM]' \

@@ -5,11 +5,11 @@ import gzip
 import hashlib
 import json
 import re
-from collections.abc import Iterator
 from pathlib import Path
 
 from common import Bad
 from crates import TOP
+from refusals import rows_of
 
 HERE = Path(__file__).resolve().parent
 PAGE = TOP / "docs" / "papr.html"
@@ -17,24 +17,22 @@ MODULES = HERE / "js"
 FIRST_MODULE = "page.js"
 IMPORT = re.compile(r'^import \{[^}]*\} from "\./([\w.]+)";\n', re.MULTILINE)
 RULES, SETTINGS, RUN_LINES = "### Refusals", "### Configuration lines", "### Run lines"
+CODES = "### Codes"
 RULES_OF_SETS = "## What `set` reads and writes"
 KINDS = ("trace", "judged", "set")
 FIRST_EXAMPLES = ("sharing.trace", "first.trace")  # what the page opens with stands first
 
 
-def rows_below(formats: str, heading: str) -> Iterator[list[str]]:
-    """The rows of the table below a heading of FORMATS.md, cell by cell, without its head."""
-    below = formats.partition(f"\n{heading}\n")[2]
-    section = re.split(r"\n#+ ", below, maxsplit=1)[0]
-    table = [line for line in section.splitlines() if line.startswith("|")]
-    if not table:
+def rows_below(formats: str, heading: str) -> list[list[str]]:
+    """The rows of the tables below a heading of FORMATS.md, of which there are some."""
+    rows = list(rows_of(formats, heading))
+    if not rows:
         raise Bad(f"FORMATS.md has no table below `{heading}`")
-    for line in table[2:]:
-        yield [cell.strip() for cell in line.strip("|").split("|")]
+    return rows
 
 
 def formats_of(formats: str) -> dict[str, list[list[str]]]:
-    """What the page tells of refusals: reasons with their rules, and lines with their forms."""
+    """What the page has of FORMATS.md: reasons with their rules, lines with their forms, and codes with their names."""
 
     def rules(heading: str) -> list[list[str]]:
         return [[word.strip("`"), rule] for word, rule, *_ in rows_below(formats, heading)]
@@ -44,6 +42,7 @@ def formats_of(formats: str) -> dict[str, list[list[str]]]:
         "setRules": rules(RULES_OF_SETS),
         "settings": [[row[0], row[3]] for row in rows_below(formats, SETTINGS)],
         "runLines": [[row[0]] for row in rows_below(formats, RUN_LINES)],
+        "codes": [row[:2] for row in rows_below(formats, CODES)],
     }
 
 

@@ -3,6 +3,7 @@
 from dataclasses import dataclass, field
 from typing import Iterator, NamedTuple, Optional
 
+from allowances import BIT_62, CLEAR_REF_IN_TWO_STEPS, NOTHING, OF_ENTER, OF_READ, Allowed
 from entry_states import C, ENTERED, NO_MATCH, NOT_FOUND, R, TAKEN
 from entry_states import Access, Answer, Clear, ClearHeld, Enter, Hold, Operation, Protect, Read, Remove, Test
 from entry_states import entered_words
@@ -15,7 +16,7 @@ EXACT, AVPN, ANDCOND, READ_4 = 1 << 39, 1 << 31, 1 << 30, 1 << 37
 SUCCESS, PTEG_FULL, NO_ENTRY = "0", "-6", "-7"
 INDEX = (1 << 56) - 1
 END_OF_PAIRS, REMOVED, NOT_REMOVED = 3, 0x80, 0x90  # of the words of H_BULK_REMOVE
-BIT_62 = 1 << 62
+MARK = 1 << 62  # which a reply of another hypervisor may have
 FOUR = 4
 ACCESSES = ("load", "store", "fetch")
 ENDINGS: dict[str, Answer] = {"denied": ("denied",), "nopage": NO_MATCH}
@@ -36,6 +37,7 @@ class Did(NamedTuple):
     entry: int
     operation: Operation
     answer: Answer
+    differences: Allowed = NOTHING  # those that the answer may have
 
 
 @dataclass
@@ -65,7 +67,7 @@ def entered(call: Call, given: list[int]) -> Iterator[Did]:
     if call.told[0] == SUCCESS:
         if len(call.told) != 2 or not first <= call.values[0] <= last:
             raise Impossible(call)
-        yield from (Did(entry, enter, TAKEN) for entry in range(first, call.values[0]))
+        yield from (Did(entry, enter, TAKEN, OF_ENTER) for entry in range(first, call.values[0]))
         yield Did(call.values[0], enter, ENTERED)
     elif call.told[0] == PTEG_FULL:
         yield from (Did(entry, enter, TAKEN) for entry in range(first, last + 1))
@@ -76,24 +78,25 @@ def test_of(flags: int, word: int) -> Test:
     return Test(word if flags & AVPN else None, word if flags & ANDCOND else None)
 
 
-def changed(call: Call, given: list[int], is_lenient: bool) -> Iterator[Did]:
+def changed(call: Call, given: list[int], allowed: Allowed) -> Iterator[Did]:
     """What a call did to the one entry that it names."""
-    name, code, words = call.name, call.told[0], call.values
+    name, words = call.name, call.values
     test, entry = test_of(given[0], given[2]), given[1]
     if name == "H_REMOVE":
         yield from told(call, Did(entry, Remove(test, 2), ("removed", *words)), 2)
     elif name == "H_PROTECT":
         yield from told(call, Did(entry, Protect(Test(test.avpn), given[0]), ("protected",)), 0)
-    elif code == NO_ENTRY or name == "H_CLEAR_MOD" or not is_lenient:
-        yield from told(call, Did(entry, Clear(CLEARED[name]), ("was", *shown(words, is_lenient))), 1)
     else:
-        yield from told(call, Did(entry, Hold(call.cpu), ("was", *shown(words, is_lenient))), 1)
-        yield from (Did(entry, ClearHeld(R, call.cpu), ("was",)) for _ in [code] if code == SUCCESS)
+        was: Answer = ("was", *(word & ~MARK if BIT_62 in allowed else word for word in words))
+        is_in_two = CLEAR_REF_IN_TWO_STEPS in allowed and name == "H_CLEAR_REF" and clears(call)
+        yield from told(call, Did(entry, Hold(call.cpu) if is_in_two else Clear(CLEARED[name]), was), 1)
+        if is_in_two:
+            yield Did(entry, ClearHeld(R, call.cpu), ("was",))
 
 
-def shown(words: list[int], is_lenient: bool) -> list[int]:
-    """The words of a reply to H_CLEAR_REF or H_CLEAR_MOD."""
-    return [word & ~BIT_62 for word in words] if is_lenient else words
+def clears(call: Call) -> bool:
+    """Whether an H_CLEAR_REF found R, and so has something to clear."""
+    return call.told[0] == SUCCESS and any(word & R for word in call.values)
 
 
 def told(call: Call, did: Did, count: int) -> Iterator[Did]:
@@ -114,7 +117,7 @@ def read(call: Call, given: list[int]) -> Iterator[Did]:
     words = call.values
     if len(words) != 2 * count:
         raise Impossible(call)
-    yield from (Did(first + at, Read(), ("read", *words[2 * at : 2 * at + 2])) for at in range(count))
+    yield from (Did(first + at, Read(), ("read", *words[2 * at : 2 * at + 2]), OF_READ) for at in range(count))
 
 
 def removed(call: Call, given: list[int]) -> Iterator[Did]:
@@ -133,7 +136,7 @@ def removed(call: Call, given: list[int]) -> Iterator[Did]:
         yield Did(asked & INDEX, remove, removal if is_removed else NOT_FOUND)
 
 
-def steps_of(call: Call, is_lenient: bool) -> list[Did]:
+def steps_of(call: Call, allowed: Allowed) -> list[Did]:
     """The steps of a hypervisor call."""
     given = call.arguments
     if call.name == "H_ENTER":
@@ -142,7 +145,7 @@ def steps_of(call: Call, is_lenient: bool) -> list[Did]:
         return list(read(call, given))
     if call.name == "H_BULK_REMOVE":
         return list(removed(call, given))
-    return list(changed(call, given, is_lenient)) if call.name.startswith("H_") else []
+    return list(changed(call, given, allowed)) if call.name.startswith("H_") else []
 
 
 def logical_of(machine: int, grants: list[Grant]) -> Optional[int]:

@@ -4,11 +4,11 @@ from collections import Counter, defaultdict
 from dataclasses import dataclass, field
 from typing import NamedTuple, Optional
 
-from call_steps import BIT_62, EXACT, PTEG_FULL, Searched
-from entry_states import CHANGES, ClearHeld, Hold, Read, State, bits_of
+from allowances import BIT_62, CLEAR_REF_IN_TWO_STEPS, ENTER_PAST_LOCKED
+from call_steps import CLEARED, EXACT, MARK, Searched
+from entry_states import CHANGES, ClearHeld, Hold, State, bits_of
 from histories import Histories
-from numerals import number_of
-from order import Made, Undecided
+from order import Made
 from processors import LINES, SETS, Page
 from timed import Call
 
@@ -24,6 +24,11 @@ class Receipt(NamedTuple):
     answer: str
     state: State
     made: Made
+
+    @property
+    def difference(self) -> Optional[str]:
+        """The known difference by which the step has its answer, if it needs one."""
+        return self.made.step.allowance(self.made.state)
 
     def __str__(self) -> str:
         return f"{self.entry:#x}.{self.stamp}.{bits_of(self.state)}.{self.answer}"
@@ -55,11 +60,12 @@ class Cache:
 
 @dataclass
 class Certificate:
-    """The trace and the replies that papr judges, and how often which known difference was taken out."""
+    """The trace and the replies that papr judges, and which known differences were taken out, how often and where."""
 
     trace: list[str]
     replies: list[str] = field(default_factory=list)
-    allowances: Counter[str] = field(default_factory=Counter)
+    differences: Counter[str] = field(default_factory=Counter)  # by name, in how many calls
+    notes: list[str] = field(default_factory=list)  # remarks: each of these calls as it was
     fits_caches: bool = True  # each access whose translation was cached, and current, is a hit
 
     def write(self, by_cpu: list[list[Call]], histories: Histories) -> None:
@@ -79,49 +85,51 @@ class Certificate:
         access = histories.accesses.get(call.line)
         if access is not None:
             receipts, by = by_way(access, receipts, cache)
-        elif histories.is_lenient and call.name.startswith("H_"):
+        elif call.name.startswith("H_"):
             words, receipts = self.without_differences(call, receipts)
         shown = f" | {' '.join(map(str, receipts))}" if receipts else ""
         return f"{call.line} {call.cpu} {call.words[1]} {' '.join(words)}{by}{shown}"
 
     def without_differences(self, call: Call, receipts: list[Receipt]) -> tuple[list[str], list[Receipt]]:
-        """The words and the receipts that papr would have given, with each known difference counted."""
-        words = list(call.told)
-        if call.name in ("H_CLEAR_REF", "H_CLEAR_MOD") and len(words) > 1 and call.values[0] & BIT_62:
-            words[1] = f"{call.values[0] & ~BIT_62:#x}"
-            self.allowances["bit-62"] += 1
-        kept = [it for it in receipts if not isinstance(it.made.step.operation, Hold) or it.answer == "notfound"]
-        for receipt in kept:
-            if isinstance(receipt.made.step.operation, ClearHeld) and receipt.state is not None:
-                if number_of(words[1]) & ~BIT_62 != receipt.state[1]:
-                    self.allowances["clear-ref-in-two-steps"] += 1
-                words[1] = f"{receipt.state[1]:#x}"
-        allowed = {it.place: name for it in kept if (name := it.made.step.allowance(it.made.state))}
-        self.allowances.update(set(allowed.values()) if "enter-past-locked" in allowed.values() else allowed.values())
-        if "enter-past-locked" in allowed.values():
-            kept = self.make_exact(call, words, [it for it in kept if it.place not in allowed])
-        for receipt in kept:
-            if receipt.place in allowed and isinstance(receipt.made.step.operation, Read):
-                state = receipt.state or (0, 0, None)
-                words[1 + 2 * receipt.place : 3 + 2 * receipt.place] = [f"{state[0]:#x}", f"{state[1]:#x}"]
-        return words, kept
+        """The words and the receipts that papr would have given. A call with known differences is noted as it was."""
+        words, names = list(call.told), {name for it in receipts if (name := it.difference)}
+        if call.name in CLEARED and receipts and words[1:]:
+            names, receipts, words[1] = cleared(call, receipts)
+        if ENTER_PAST_LOCKED in names:
+            receipts = receipts[-1:]
+            self.make_exact(call, receipts[0].entry)
+        for receipt in (it for it in receipts if it.difference):
+            place, state = 1 + 2 * receipt.place, receipt.state or (0, 0, None)
+            words[place : place + 2] = [f"{state[0]:#x}", f"{state[1]:#x}"]
+        if names:
+            self.differences.update(names)
+            self.notes.append(f"# {', '.join(sorted(names))}: {call}")
+        return words, receipts
 
-    def make_exact(self, call: Call, words: list[str], kept: list[Receipt]) -> list[Receipt]:
-        """Has an H_ENTER name the entry at which it ended, so that papr's passes no other."""
-        if not kept:
-            raise Undecided(f"line {call.line} found no free entry, and no taken one")
+    def make_exact(self, call: Call, entry: int) -> None:
+        """Has an H_ENTER name the entry that it took, so that papr's passes no other."""
         first = 3 if call.words[1] == "hcall" else 2
         line = list(call.words)
-        line[first : first + 2] = [f"{call.arguments[0] | EXACT:#x}", f"{kept[-1].entry:#x}"]
+        line[first : first + 2] = [f"{call.arguments[0] | EXACT:#x}", f"{entry:#x}"]
         self.trace[call.line - 1] = " ".join(line)
-        del words[1 if words[0] == PTEG_FULL else len(words) :]
-        return kept[-1:]
 
     @property
     def verdict(self) -> str:
-        """That the replies are good, and except for what."""
-        names = [f"{name} {self.allowances[name]}" for name in sorted(self.allowances)]
+        """That the replies are good, and which differences they have."""
+        names = [f"{name} {self.differences[name]}" for name in sorted(self.differences)]
         return f"good except for {', '.join(names)}" if names else "good"
+
+
+def cleared(call: Call, receipts: list[Receipt]) -> tuple[set[str], list[Receipt], str]:
+    """The differences of a clearing, its one receipt, and the word that papr would have told."""
+    names, word, last = set[str](), call.values[0], receipts[-1]
+    if word & MARK:
+        names.add(BIT_62)
+        word &= ~MARK
+    if isinstance(last.made.step.operation, ClearHeld) and last.state is not None and last.state[1] != word:
+        names.add(CLEAR_REF_IN_TWO_STEPS)
+        word = last.state[1]
+    return names, [last], f"{word:#x}" if names else call.told[1]
 
 
 def by_way(access: Searched, receipts: list[Receipt], cache: Cache) -> tuple[list[Receipt], str]:
@@ -148,6 +156,6 @@ def receipts_of(histories: Histories) -> dict[int, list[Receipt]]:
 def receipt_of(entry: int, stamp: int, made: Made) -> Receipt:
     """The receipt of a step at a stamp."""
     answer: Optional[str] = str(made.step.operation.reply(made.state)[0][0])
-    if made.step.allowance(made.state) == "enter-past-locked":
+    if made.step.allowance(made.state) == ENTER_PAST_LOCKED:
         answer = "taken"
     return Receipt(made.step.call[1], entry, stamp, str(answer), made.state, made)

@@ -5,8 +5,9 @@ import re
 from dataclasses import dataclass
 from typing import Iterable, Optional
 
-from common import Bad, text_of
+from common import Bad
 from decoding import Decoder, Page
+from inputs import text_of
 from known import Known
 from numerals import read_number
 from replies import TABLE, Receipt, Reply, replies_of
@@ -16,9 +17,9 @@ END = 2**64
 
 
 def read_lines(word: str) -> tuple[int, int]:
-    """A range of lines: A..B, A.., ..B or A."""
-    found = re.fullmatch(r"([0-9a-fA-Fx]*)(\.\.)?([0-9a-fA-Fx]*)", word)
-    if not word or word == ".." or found is None:
+    """A range of lines: A..B, A.., ..B or A; a hyphen is as good as two dots."""
+    found = re.fullmatch(r"([0-9a-fA-Fx]*)(\.\.|-)?([0-9a-fA-Fx]*)", word)
+    if word in ("", "..", "-") or found is None:
         raise argparse.ArgumentTypeError(f"`{word}` is no range of lines, as 100..200")
     first = read_number(found[1]) if found[1] else 0
     last = read_number(found[3]) if found[3] else END if found[2] else first

@@ -1,4 +1,4 @@
-"""What the tools share: input, and how a tool ends."""
+"""What the tools share: messages, places, and how a tool ends."""
 
 import argparse
 import errno
@@ -8,15 +8,15 @@ import signal
 import subprocess
 import sys
 import traceback
-from contextlib import contextmanager
 from pathlib import Path
-from typing import BinaryIO, Callable, Iterator, Optional, TextIO
+from typing import Callable, Optional
 
 HERE = Path(__file__).resolve().parent
 # The Python package papr: installed it stands beside the tools, and in a checkout here.
 sys.path.insert(1, str(HERE.parent / "bindings" / "python"))
 # The tool's name in messages: `papr why` where the command papr began it, else that of its file.
 NAME = os.environ.pop("PAPR_NAME", "") or os.path.basename(sys.argv[0])
+STANDARD_OUTPUT = "standard output"
 
 
 class Bad(Exception):
@@ -31,6 +31,12 @@ class Missing(Bad):
     status = 127
 
 
+class Unwritten(Bad):
+    """An output that can't be written."""
+
+    status = 4
+
+
 def closed(name: str) -> OSError:
     """The error of a stream that is closed from the start, for which Python has no file."""
     return OSError(errno.EBADF, os.strerror(errno.EBADF), name)
@@ -41,34 +47,7 @@ class ClosedOutput(io.TextIOBase):
 
     def write(self, _text: str) -> int:
         """Fails."""
-        raise closed("standard output")
-
-    def fileno(self) -> int:
-        """Fails."""
-        raise closed("standard output")
-
-
-@contextmanager
-def bytes_of(path: Optional[str]) -> Iterator[BinaryIO]:
-    """The file's bytes, or those of standard input where no file or `-` is named."""
-    if path is None or path == "-":
-        if sys.stdin is None:
-            raise closed("standard input")
-        yield sys.stdin.buffer
-    else:
-        with open(path, "rb") as stream:
-            yield stream
-
-
-@contextmanager
-def text_of(path: Optional[str], newline: Optional[str] = None) -> Iterator[TextIO]:
-    """The text of a file or of standard input, which is ASCII whatever the locale is."""
-    with bytes_of(path) as stream:
-        text = io.TextIOWrapper(stream, encoding="ascii", newline=newline)
-        try:
-            yield text
-        finally:
-            text.detach()
+        raise Unwritten(f"{STANDARD_OUTPUT}: {os.strerror(errno.EBADF)}")
 
 
 def page(name: str) -> Path:
@@ -121,31 +100,51 @@ def fault_of(error: Exception) -> str:
     return f"an error in {Path(place.filename).name}, line {place.lineno}: {type(error).__name__}: {said}"
 
 
+def ended(work: Callable[[], Optional[int]]) -> int:
+    """Does a tool's work to its end, at which all is written; the answer is the exit status."""
+    try:
+        status = work() or 0
+    except SystemExit as early:  # help, or words that aren't taken
+        status = early.code if isinstance(early.code, int) else Bad.status
+    sys.stdout.flush()
+    return status
+
+
+def drop_output() -> None:
+    """Has nothing more written to standard output, not by the end of Python either."""
+    if not isinstance(sys.stdout, ClosedOutput):
+        os.dup2(os.open(os.devnull, os.O_WRONLY), sys.stdout.fileno())
+
+
+def status_of(error: Exception) -> int:
+    """Says which error ended the work, and gives the exit status."""
+    if isinstance(error, BrokenPipeError):
+        # The reader has what it wanted: no answer is given, and nothing is said.
+        drop_output()
+        return 128 + signal.SIGPIPE
+    if isinstance(error, OSError) and error.filename is None:
+        # (An input's errors have its name.)
+        drop_output()
+        note(f"{STANDARD_OUTPUT}: {error.strerror or error}")
+        return Unwritten.status
+    if isinstance(error, OSError):
+        note(f"{error.filename}: {error.strerror}")
+    elif isinstance(error, MemoryError):
+        note("there is not enough memory")
+    else:
+        note(error if isinstance(error, Bad) else fault_of(error))
+    return error.status if isinstance(error, Bad) else Bad.status
+
+
 def run_tool(work: Callable[[], Optional[int]]) -> int:
-    """Does a tool's work. The answer is the exit status: 2 and a message where it can't be done.
+    """Does a tool's work. The answer is the exit status: that of `Bad` and a message where it can't be done.
 
     An error that no tool expects ends so too: other statuses are answers of some tools.
     """
     settle_output()
     try:
-        status = work()
-        sys.stdout.flush()
-        return status or 0
-    except Bad as error:
-        note(error)
-        return error.status
-    except UnicodeDecodeError as error:
-        note(f"the input has the byte {error.object[error.start]:#04x}, which isn't {error.encoding.upper()}")
+        return ended(work)
     except KeyboardInterrupt:
         return 128 + signal.SIGINT
-    except BrokenPipeError:
-        # The reader has what it wanted; nothing more can be flushed.
-        os.dup2(os.open(os.devnull, os.O_WRONLY), sys.stdout.fileno())
-        return 0
-    except OSError as error:
-        note(f"{error.filename or 'output'}: {error.strerror or error}")
-    except MemoryError:
-        note("there is not enough memory")
     except Exception as error:
-        note(fault_of(error))
-    return 2
+        return status_of(error)

@@ -7,6 +7,7 @@ from itertools import accumulate
 from math import inf
 from typing import Iterator, NamedTuple, Optional
 
+from allowances import Allowed, Beside
 from call_steps import ACCESSES, Did, Impossible, Searched, searched, steps_of
 from entry_states import ENTERED, NO_MATCH, Access, Answer, Enter, State, Words, valid
 from grants import Grant
@@ -88,7 +89,7 @@ class Histories:
     order: int
     grants: list[Grant]
     openings: dict[int, Words]
-    is_lenient: bool
+    allowed: Allowed
     bound: Bound
     told: dict[int, list[list[Told]]] = field(default_factory=dict)
     accesses: dict[int, Searched] = field(default_factory=dict)  # by their lines
@@ -96,6 +97,7 @@ class Histories:
     joint: Optional[Joint] = None
     cpus: int = 0
     _stays: dict[int, Stays] = field(default_factory=dict)
+    _beside: dict[int, Beside] = field(default_factory=dict)
 
     def read(self, by_cpu: list[list[Call]]) -> None:
         """Takes the calls of each processor."""
@@ -114,7 +116,7 @@ class Histories:
         for call in calls:
             if call.words[1] not in ACCESSES:
                 processor.follow(call)
-                yield from (Told(call, at, did, None) for at, did in enumerate(steps_of(call, self.is_lenient)))
+                yield from (Told(call, at, did, None) for at, did in enumerate(steps_of(call, self.allowed)))
                 continue
             access = searched(call, processor, self.order, self.grants)
             if access is not None:
@@ -172,7 +174,19 @@ class Histories:
             return None
         call = one.call
         place = call.line, one.place
-        return Step(one.did.operation, frozenset([answer]), call.begin, call.end, place, self.is_lenient, may_skip)
+        allowed = self.allowed_of(one)
+        return Step(one.did.operation, frozenset([answer]), call.begin, call.end, place, allowed, may_skip)
+
+    def allowed_of(self, one: Told) -> Allowed:
+        """The differences that a step may have."""
+        allowed, entry = one.did.differences & self.allowed, one.did.entry
+        if not allowed:
+            return allowed
+        if entry not in self._beside:
+            beside = self._beside[entry] = Beside(self.cpus)
+            for it in (it for own in self.told[entry] for it in own):
+                beside.add(it.call.cpu, it.did.operation, it.did.answer, it.call.begin, it.call.end)
+        return self._beside[entry].among(allowed, one.call.cpu, one.call.begin, one.call.end)
 
     def steps(self, entry: int, is_open: bool = False) -> list[list[Step]]:
         """The steps on an entry, by processor."""

@@ -20,7 +20,7 @@ fi
 # The program's commands, and each tool's command with its file.
 answered=(run par check set image drill)
 declare -A file_of=([why]=why [history]=entry-history [picture]=run-picture [receipts]=receipts [decode]=decode
-    [diff]=diff [bad-line]=bad-line [find-order]=find-order [cut]=cut-trace [from-qemu]=qemu-log-to-trace [entries]=htab-to-entries)
+    [diff]=diff [groups]=groups [bad-line]=bad-line [find-order]=find-order [cut]=cut-trace [from-qemu]=qemu-log-to-trace [entries]=htab-to-entries)
 
 most_bytes=16777217 # one more than the program takes
 made=()             # files to be removed at the end
@@ -145,15 +145,28 @@ must_be_readable() {
     [ -z "$reason" ] || { say "$1: $reason" && exit 3; }
 }
 
-# expander FILE: the command that expands a compressed file, in `expands`; nothing for any other.
-expander() {
-    case $1 in
-        *.xz) expands=xz ;;
-        *.gz) expands=gzip ;;
-        *.bz2) expands=bzip2 ;;
-        *.zst) expands=zstd ;;
+# read_front: takes the first bytes of standard input, up to a byte 0: `front`, with `ended` by one or not. What they say
+# expands the input is in `expands`; nothing for any other.
+read_front() {
+    local LC_ALL=C
+    ended=
+    if IFS= read -r -d '' -n 5 front && [ "${#front}" -lt 5 ]; then
+        ended=yes
+    fi
+    case $front in
+        $'\xfd7zXZ') expands=xz ;;
+        $'\x1f\x8b\x08'*) expands=gzip ;;
+        'BZh'[1-9]*) expands=bzip2 ;;
+        $'\x28\xb5\x2f\xfd'*) expands=zstd ;;
         *) expands= ;;
     esac
+}
+
+# whole_input: standard input, with what read_front took of it.
+whole_input() {
+    printf '%s' "$front"
+    [ -z "$ended" ] || printf '\0'
+    cat
 }
 
 no_room() {
@@ -167,95 +180,121 @@ not_copied() {
     exit 3
 }
 
-# expanded FILE: adds what a compressed file has to the temporary file, as far as the program reads, or ends.
+# expanded NAME: adds what a compressed input has to the temporary file, as far as the program reads, or ends.
 expanded() {
     local said ends
     command -v "$expands" >/dev/null || { say "$1: $expands, which expands it, isn't installed" && exit 3; }
     said=$(
         exec 2>&1
-        "$expands" -dc -- "$1" | head -c "$most_bytes" >>"$again"
+        whole_input 2>/dev/null | "$expands" -dc | head -c "$most_bytes" >>"$again"
         ends=("${PIPESTATUS[@]}")
-        [ "${ends[1]}" -eq 0 ] || exit 2
+        [ "${ends[2]}" -eq 0 ] || exit 2
         # (141: it had more than is read.)
-        [ "${ends[0]}" -eq 0 ] || [ "${ends[0]}" -eq 141 ]
+        [ "${ends[1]}" -eq 0 ] || [ "${ends[1]}" -eq 141 ]
     )
     case $? in
         0) ;;
         2) not_copied "$1" ;;
         *)
             said=${said#$'\n'} said=${said%%$'\n'*} said=${said#"$expands: "}
-            say "$1: ${said#"$1: "}"
+            # (What the commands call their standard input.)
+            said=${said#'(stdin): '} said=${said#'stdin: '} said=${said#'/*stdin*\ : '}
+            say "$1: $said"
             exit 3
             ;;
     esac
 }
 
-# contents FILE: adds what a file has, expanded, to the temporary file, or ends.
+# contents NAME: adds what standard input has, expanded, to the temporary file, or ends.
 contents() {
-    local expands
-    expander "$1"
+    read_front
     if [ -n "$expands" ]; then
         expanded "$1"
-    elif [ "$1" = - ]; then
-        head -c "$most_bytes" 2>/dev/null >>"$again" || not_copied 'standard input'
     else
-        head -c "$most_bytes" -- "$1" 2>/dev/null >>"$again" || not_copied "$1"
+        { whole_input | head -c "$most_bytes" >>"$again"; } 2>/dev/null || not_copied "$1"
+    fi
+}
+
+# contents_of FILE: the same of a file, or of standard input where it is `-`.
+contents_of() {
+    if [ "$1" = - ]; then
+        contents 'standard input'
+    else
+        contents "$1" <"$1"
     fi
 }
 
 # joined TRACE REPLIES: copies both as `check` reads them.
 joined() {
     local between=replies
-    contents "$1"
+    contents_of "$1"
     [ -z "$(tail -c 1 "$again")" ] || between=$'\nreplies'
     echo "$between" 2>/dev/null >>"$again" || not_copied "$1"
-    contents "$2"
+    contents_of "$2"
 }
 
 # open_input [FILE [REPLIES]]: makes standard input what is named. Afterwards `name` is what messages call it, and
 # `again` a file from which it can be read once more, from byte `skip` on; a copy is made there if `is_copied`.
 open_input() {
     local file
-    name=${1:--} again='' skip=0 is_copied=''
+    name=${1:--} again='' skip=0 is_copied='' front='' ended=''
     for file; do
         [ "$file" = - ] || must_be_readable "$file"
     done
-    expander "$name"
     if [ $# -eq 2 ]; then
         make_temporary || no_room
         joined "$@"
-    elif [ -n "$expands" ]; then
-        make_temporary || no_room
-        contents "$1"
-    elif [ "$name" = - ]; then
+        exec <"$again" || exit 3
+        return
+    fi
+    if [ "$name" = - ]; then
         name='standard input'
         can_reread
-        return
-    elif [ -p "$1" ]; then
+    else
         exec <"$1" || exit 3
         can_reread
-        return
-    else
-        again=$1
+        [ "$again" != /dev/fd/0 ] || again=$1
     fi
-    exec <"$again" || exit 3
 }
 
-# can_reread: sees to it that standard input can be read once more.
+# can_reread: sees to it that standard input can be read once more, expanded.
 can_reread() {
+    local expands=
     if [ -f /dev/fd/0 ]; then
         again=/dev/fd/0
         { read -r -u 3 _ skip 3</proc/self/fdinfo/0; } 2>/dev/null || skip=0
+        if [ "$skip" = 0 ]; then
+            read_front </dev/fd/0
+        else
+            read_front < <(read_again 2>/dev/null)
+        fi
+        if [ -n "$expands" ]; then
+            front='' ended=''
+            expand_input
+        fi
     elif [ -p /dev/fd/0 ] || [ -S /dev/fd/0 ] || [ -t 0 ]; then
-        make_temporary && is_copied=yes
+        [ -t 0 ] || read_front
+        if [ -n "$expands" ]; then
+            expand_input
+        else
+            make_temporary && is_copied=yes
+        fi
     elif [ -c /dev/fd/0 ]; then
         again=/dev/fd/0
     fi
 }
 
+# expand_input: makes standard input what it has, expanded.
+expand_input() {
+    make_temporary || no_room
+    expanded "$name"
+    skip=0 front='' ended=''
+    exec <"$again" || exit 3
+}
+
 # copying: hands on standard input and copies it. A copy that has no room isn't the input, and is removed.
 copying() {
-    tee -- "$again" 2>/dev/null
+    whole_input 2>/dev/null | tee -- "$again" 2>/dev/null
     # (Another status: the program has read enough.)
     [ $? -ne 1 ] || rm -f -- "$again"
 }
@@ -323,6 +362,12 @@ run_program() {
     as_child "$program" "$@"
 }
 
+# had_enough STATUS: whether a run ended so because the reader of its output did. Then nothing is said, and the status is
+# that of SIGPIPE, as for other commands: no answer is given that wasn't read.
+had_enough() {
+    [ "$1" -eq 4 ] && { [ -p /dev/fd/1 ] || [ -S /dev/fd/1 ]; }
+}
+
 # answer WORD..: runs the program with these words, and ends with its status.
 answer() {
     local status
@@ -330,11 +375,14 @@ answer() {
     [ -z "$output" ] || open_output "$output"
     if [ -n "$is_copied" ]; then
         run_program "$@" < <(copying)
+    elif [ -n "$front$ended" ] && [ ! -f /dev/fd/0 ]; then
+        run_program "$@" < <(whole_input)
     else
         run_program "$@"
     fi
     status=$?
     [ "$status" -ne 0 ] || [ -n "$part" ] || exit 0
+    had_enough "$status" && status=141
     [ "$status" -eq 0 ] || telling tell "$status" "$@"
     [ "$status" -lt 129 ] || end_by "$status"
     if [ -n "$part" ] && { [ "$status" -eq 0 ] || [ "$status" -eq 6 ]; }; then
@@ -419,7 +467,7 @@ run_command() {
             ;;
         drill)
             is_command drill "${words[@]}" || telling wrong 'drill wants two numbers: a seed, and lines, at most 100,000'
-            first=("${words[@]}") words=() name=drill again='' is_copied=''
+            first=("${words[@]}") words=() name=drill again='' is_copied='' front='' ended=''
             ;;
     esac
     [ "${#words[@]}" -le "$most" ] || telling wrong "$command wants at most $most file$([ "$most" -eq 1 ] || echo s)"
@@ -439,6 +487,7 @@ run_tool() {
 ended_by='' part='' place=''
 if [ "$use" = ended ]; then
     name='standard input' again=/dev/fd/0 skip=$2
+    ! had_enough "$1" || exit 141
     telling tell "$1" "$3"
     exit "$1"
 fi

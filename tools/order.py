@@ -4,8 +4,9 @@ from dataclasses import dataclass, field
 from math import inf
 from typing import Iterator, NamedTuple, Optional
 
+from allowances import NOTHING, Allowed, difference
 from common import Bad
-from entry_states import NO_MATCH, VALID, Answer, Enter, Operation, Read, State
+from entry_states import NO_MATCH, Answer, ClearHeld, Operation, State
 
 QUIET = ("taken", "read", "notfound", "nomatch", "denied", "masked")  # answers of steps that change nothing
 
@@ -38,7 +39,7 @@ class Step:
     begin: float
     end: float
     call: tuple[int, int]  # the line, and the step's place in it
-    is_lenient: bool = False  # known differences of other hypervisors are allowed
+    allowed: Allowed = NOTHING  # known differences of other hypervisors, which the answers may have
     may_skip: bool = False  # an access that may have ended at an entry before this one
 
     @property
@@ -51,18 +52,18 @@ class Step:
     def allowance(self, state: State) -> Optional[str]:
         """The known difference by which the step has its answer in a state that doesn't give it."""
         is_held = state is not None and state[2] is not None
-        if not self.is_lenient or self.answers is None or is_held:
+        if not self.allowed or self.answers is None or is_held:
             return None
         (answer,) = self.answers
-        if self.operation.reply(state)[0] == answer:
-            return None
-        if isinstance(self.operation, Enter) and answer == ("taken",) and state is None:
-            return "enter-past-locked"
-        if isinstance(self.operation, Read) and not int(answer[1]) & VALID:
-            if state is None:
-                return "words-of-empty"
-            return "read-in-removal" if answer[1] == state[0] & ~VALID else None
-        return None
+        return None if self.operation.reply(state)[0] == answer else difference(self.allowed, answer, state)
+
+    def rank(self, before: State, after: State) -> int:
+        """How late the step is tried: first the end of a clearing in two steps, last what needs a difference."""
+        if isinstance(self.operation, ClearHeld):
+            return 0
+        if self.allowance(before) is not None:
+            return 3
+        return 1 if after == before else 2
 
     def after(self, state: State) -> Iterator[State]:
         """The states that the step may leave, the likeliest first."""
@@ -133,12 +134,9 @@ class Search:
             if step.begin > limit:
                 continue
             after = list(step.after(node.state))
-            is_allowed = step.allowance(node.state) is not None
-            if after and step.is_quiet and not is_allowed:
+            if after and step.is_quiet and step.allowance(node.state) is None:
                 return [(cpu, after[0])]
-            rank = 2 if is_allowed else 1
-            ranked = [(rank if state != node.state or is_allowed else 0, state) for state in after]
-            found += [(own, step.end, step.call, cpu, state) for own, state in ranked]
+            found += [(step.rank(node.state, state), step.end, step.call, cpu, state) for state in after]
         found.sort(key=lambda it: it[:3])
         return [(cpu, state) for _rank, _end, _call, cpu, state in found]
 

@@ -9,6 +9,7 @@ from difflib import get_close_matches
 from typing import Callable, Iterator, Optional
 
 import grants
+import inputs
 from common import Bad, page
 from grants import Grant
 from papr.numbers import number
@@ -71,12 +72,12 @@ def number_in(words: list[str], place: int) -> Optional[int]:
 
 
 def rows_of(formats: str, heading: str) -> Iterator[list[str]]:
-    """The rows of the table below a heading, cell by cell, without its head."""
+    """The rows of the tables below a heading, cell by cell, without their heads."""
     below = formats.partition(f"\n{heading}\n")[2]
-    section = re.split(r"\n#+ ", below, maxsplit=1)[0]
-    table = [line for line in section.splitlines() if line.startswith("|")]
-    for line in table[2:]:
-        yield [cell.strip() for cell in line.strip("|").split("|")]
+    section = re.split(r"\n#+ ", below, maxsplit=1)[0].splitlines()
+    for line, following in zip(section, [*section[1:], ""]):
+        if line.startswith("|") and not line.startswith("|---") and not following.startswith("|---"):
+            yield [cell.strip() for cell in line.strip("|").split("|")]
 
 
 def rules_of(formats: str, refused: Refused) -> str:
@@ -227,6 +228,11 @@ def rule_of(formats: str, refused: Refused) -> str:
 # ---- forms and hints
 
 
+def is_binary(lines: list[str]) -> bool:
+    """Whether an input's lines are those of no text."""
+    return inputs.is_binary("\n".join(lines)[: inputs.FRONT].encode("latin-1"))
+
+
 def form_of(formats: str, refused: Refused) -> Optional[str]:
     """The form that the line should have, if that tells more than the rule."""
     forms = forms_of(formats)
@@ -342,6 +348,8 @@ HINTS: dict[str, Callable[[str, Refused], Optional[str]]] = {
 
 def explained(refused: Refused) -> list[str]:
     """The refused line, the rule, the form and a hint, a line each."""
+    if is_binary(refused.lines):
+        return ["  hint: the input is not a text"]
     formats = page("FORMATS.md").read_text(encoding="utf-8")
     told = []
     if refused.has_line:

@@ -40,17 +40,18 @@ make a trace
   cut          a long trace into parts
 
 look at a run
-  why          why is a trace refused, and what is expected instead
+  why          why is a trace refused, or a line of it answered so
   bad-line     find the first line whose reply is wrong
   find-order   judge replies without receipts, of any hypervisor
   decode       doublewords, entries, receipts and replies in words
   receipts     as a table: CSV, JSON, SQLite
   history      a picture of one entry
   picture      a picture of a whole run
+  groups       which groups of the table are fullest, at any line
   diff         compare two texts of replies, by line and by entry
 
-The first six read standard input where no file or - is named, expand a file whose name ends in .xz, .gz,
-.bz2 or .zst, and take -o FILE: the output goes there, whole or not at all.
+The first six read standard input where no file or - is named, and take -o FILE: the output goes there, whole
+or not at all. All commands expand what is compressed by xz, gzip, bzip2 or zstd, whatever its name is.
 Manual pages: papr(1), papr-NAME(1) for a command, papr-trace(5) and papr-replies(5) for the formats.
 END
 }
@@ -252,7 +253,6 @@ tell() {
             ;;
         4)
             reason='write error'
-            [ ! -p /dev/fd/1 ] || reason='Broken pipe'
             [ -e /dev/fd/1 ] || reason='Bad file descriptor'
             say "${output:-standard output}: $reason"
             ;;

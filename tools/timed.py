@@ -7,22 +7,15 @@ from math import inf
 from typing import Iterable, Optional
 
 from common import Bad
+from hypercalls import ENTRIES, WINDOW, names_on
 from numerals import number_of, read_number
 from traces import is_quiet, is_run_line
 
 TIMES = re.compile(r"(.*?) @ (\S+) (\S+)")
 BY = ("hit", "walk")
-ON_WINDOWS = ("H_PUT_TCE", "H_GET_TCE", "dmaread", "dmawrite")
-WINDOW_CALLS = (0x1C, 0x20)
-CALLS = {
-    0x04: "H_REMOVE",
-    0x08: "H_ENTER",
-    0x0C: "H_READ",
-    0x10: "H_CLEAR_MOD",
-    0x14: "H_CLEAR_REF",
-    0x18: "H_PROTECT",
-    0x124: "H_BULK_REMOVE",
-}
+WINDOW_CALLS = names_on(WINDOW)
+ON_WINDOWS = (*WINDOW_CALLS.values(), "dmaread", "dmawrite")
+CALLS = names_on(ENTRIES)
 ARGUMENTS = 8
 
 

@@ -4,6 +4,7 @@ from argparse import ArgumentTypeError
 from dataclasses import dataclass
 from typing import Optional
 
+from hypercalls import TABLE, WINDOW, names_on
 from numerals import read_number
 from papr import numbers
 
@@ -11,10 +12,11 @@ MOST_LINES, MOST_BYTES = 2**17, 2**24
 MOST_QUIET, MOST_DUMPS = 256, 16
 MOST_ENTRIES, ORDERS = numbers.ENTRIES, numbers.ORDERS
 DIGITS = "0123456789"
+SETTINGS = ("order", "limit", "cpus", "pool", "ram", "io", "entry", "window", "begin")  # that begin a line
 
 PREPARE, COMMIT = "H_RESIZE_HPT_PREPARE", "H_RESIZE_HPT_COMMIT"
-RESIZES = {0x36C: PREPARE, 0x370: COMMIT}
-PUTS = {0x20: "H_PUT_TCE"}
+RESIZES = names_on(TABLE)
+PUTS = {number: name for number, name in names_on(WINDOW).items() if name == "H_PUT_TCE"}
 A_PAGE, PERMISSIONS = 2**12, 0x3  # of a DMA window's page in bytes, and of a TCE
 
 
@@ -62,6 +64,11 @@ def number_of(words: list[str], place: int) -> Optional[int]:
 def begins_with_digit(words: list[str]) -> bool:
     """Whether a line begins as one with a number does, be it one or not."""
     return bool(words) and words[0][0] in DIGITS
+
+
+def is_of_trace(words: list[str]) -> bool:
+    """Whether a first line is that of a trace: a remark or a setting, which no reply is."""
+    return bool(words) and (words[0][0] == "#" or words[0] in SETTINGS)
 
 
 def is_run_line(words: list[str]) -> bool:

@@ -1,5 +1,6 @@
 """Files that a tool writes: whole, or not at all."""
 
+import errno
 import os
 import secrets
 import signal
@@ -11,9 +12,9 @@ from pathlib import Path
 from types import FrameType
 from typing import Iterator, Optional, TextIO, Union
 
-from common import Bad
+from common import STANDARD_OUTPUT, Unwritten
 
-STANDARD_OUTPUT = ("-", "/dev/stdout")
+AS_IT_IS = ("-", "/dev/stdout")  # names of standard output
 ENDING = (signal.SIGHUP, signal.SIGTERM)  # an interrupt is an exception
 MODE, OWN_MODE = 0o666, 0o600  # of a new file, before the umask, and of one that gets the mode of another
 
@@ -33,12 +34,14 @@ def found(path: Name) -> Optional[os.stat_result]:
         return os.stat(path)
     except FileNotFoundError:
         return None
+    except OSError as error:
+        raise Unwritten(f"{path}: {error.strerror}") from error
 
 
 def place_of(path: Name) -> Path:
     """Where the file lies that a path leads to."""
     if str(path).endswith("/"):
-        raise Bad(f"{path}: Is a directory")
+        raise Unwritten(f"{path}: Is a directory")
     return Path(os.path.realpath(path))
 
 
@@ -90,7 +93,7 @@ def replacing(place: Path, name: Name) -> Iterator[tuple[Path, int]]:
                 part.unlink(missing_ok=True)
                 raise
     except OSError as error:
-        raise Bad(f"{name}: {error.strerror}") from error
+        raise Unwritten(f"{name}: {error.strerror}") from error
 
 
 @contextmanager
@@ -107,18 +110,23 @@ def text_at(path: Name) -> Iterator[TextIO]:
     if there is None or stat.S_ISREG(there.st_mode):
         with whole(place_of(path), path) as out:
             yield out
-    else:
+        return
+    try:
         with open(path, "w", encoding="utf-8") as out:
             yield out
+    except BrokenPipeError:
+        raise
+    except OSError as error:
+        raise Unwritten(f"{path}: {error.strerror}") from error
 
 
 @contextmanager
 def output(path: Optional[str]) -> Iterator[TextIO]:
     """What an option names for output, or standard output where it names none or `-`."""
-    if path is not None and path not in STANDARD_OUTPUT:
+    if path is not None and path not in AS_IT_IS:
         with text_at(path) as out:
             yield out
     elif sys.stdout is None:
-        raise Bad("standard output: Bad file descriptor")
+        raise Unwritten(f"{STANDARD_OUTPUT}: {os.strerror(errno.EBADF)}")
     else:
         yield sys.stdout

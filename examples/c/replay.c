@@ -211,11 +211,20 @@ static void call_line(uint64_t number, const uint64_t *a)
 static uint64_t number_of(const char *name)
 {
     static const struct { const char *name; uint64_t number; } calls[] = {
-        {"H_REMOVE", H_REMOVE}, {"H_ENTER", H_ENTER}, {"H_READ", H_READ},
-        {"H_CLEAR_MOD", H_CLEAR_MOD}, {"H_CLEAR_REF", H_CLEAR_REF}, {"H_PROTECT", H_PROTECT},
-        {"H_GET_TCE", H_GET_TCE}, {"H_PUT_TCE", H_PUT_TCE},
-        {"H_BULK_REMOVE", H_BULK_REMOVE}, {"H_RESIZE_HPT_PREPARE", H_RESIZE_HPT_PREPARE},
-        {"H_RESIZE_HPT_COMMIT", H_RESIZE_HPT_COMMIT}};
+        /* tests/check call-table: begin */
+        {"H_ENTER", H_ENTER},
+        {"H_REMOVE", H_REMOVE},
+        {"H_PROTECT", H_PROTECT},
+        {"H_READ", H_READ},
+        {"H_CLEAR_REF", H_CLEAR_REF},
+        {"H_CLEAR_MOD", H_CLEAR_MOD},
+        {"H_BULK_REMOVE", H_BULK_REMOVE},
+        {"H_PUT_TCE", H_PUT_TCE},
+        {"H_GET_TCE", H_GET_TCE},
+        {"H_RESIZE_HPT_PREPARE", H_RESIZE_HPT_PREPARE},
+        {"H_RESIZE_HPT_COMMIT", H_RESIZE_HPT_COMMIT},
+        /* tests/check call-table: end */
+    };
     for (size_t i = 0; i < sizeof calls / sizeof *calls; i++)
         if (!strcmp(name, calls[i].name))
             return calls[i].number;

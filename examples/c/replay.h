@@ -5,9 +5,19 @@
 #include <papr.h>
 
 enum {
-    H_REMOVE = 0x04, H_ENTER = 0x08, H_READ = 0x0c, H_CLEAR_MOD = 0x10, H_CLEAR_REF = 0x14,
-    H_PROTECT = 0x18, H_GET_TCE = 0x1c, H_PUT_TCE = 0x20, H_BULK_REMOVE = 0x124,
-    H_RESIZE_HPT_PREPARE = 0x36c, H_RESIZE_HPT_COMMIT = 0x370
+    /* tests/check call-table: begin */
+    H_ENTER = 0x08,
+    H_REMOVE = 0x04,
+    H_PROTECT = 0x18,
+    H_READ = 0x0c,
+    H_CLEAR_REF = 0x14,
+    H_CLEAR_MOD = 0x10,
+    H_BULK_REMOVE = 0x124,
+    H_PUT_TCE = 0x20,
+    H_GET_TCE = 0x1c,
+    H_RESIZE_HPT_PREPARE = 0x36c,
+    H_RESIZE_HPT_COMMIT = 0x370,
+    /* tests/check call-table: end */
 };
 
 /* A cached translation: its page, and the entry that translated it, with the stamp that the entry had. */

@@ -1,5 +1,6 @@
 // The page: what is chosen, opened and changed, what the program is called with, and what it answers.
 
+import { Codes } from "./codes.js";
 import { fromBase64, gunzip } from "./files.js";
 import { Lines } from "./lines.js";
 import { Field, Panes } from "./panes.js";
@@ -34,6 +35,7 @@ class Page {
   constructor(module, decoder, data, source) {
     this.examples = data.examples;
     this.refusals = new Refusals(data.formats);
+    this.codes = new Codes(data.formats.codes);
     this.runner = new Runner(module, source);
     this.panes = new Panes((line, reply, below) => this.chooseRow(line, reply, below));
     const mark = (part, entry) => this.panes.mark((reply) => touches(this.replies, reply, part, entry));
@@ -319,7 +321,7 @@ class Page {
     by("line").hidden = line === 0;
     by("line-number").textContent = line > 0 ? `Line ${line}` : "";
     by("line-words").textContent = words.slice(0, 500);
-    by("line-reply").textContent = textOf(reply).split(" |")[0];
+    by("line-reply").textContent = this.codes.named(textOf(reply).split(" |")[0], this.command === "set");
     by("line-receipts").replaceChildren(...receipts.map((receipt) => this.chip(receipt)));
     const isOfTable = receipts.some((it) => it.isOfTable);
     by("behind").hidden = !(this.command === "run" && line > 0 && isOfTable);

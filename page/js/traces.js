@@ -2,10 +2,12 @@
 
 import { Lines } from "./lines.js";
 
+// tests/check call-table: begin
 const RESIZES = new Map([
   [0x36cn, "H_RESIZE_HPT_PREPARE"],
   [0x370n, "H_RESIZE_HPT_COMMIT"],
 ]);
+// tests/check call-table: end
 
 // The words of a line; a remark has none.
 export function wordsOfLine(line) {

@@ -9,12 +9,15 @@ from concurrent.futures import ThreadPoolExecutor, as_completed
 from typing import Optional, Sequence
 
 from checks import (
+    call_table,
     calls,
     chains,
+    declarations,
     fail_alloc,
     fuzz,
     fuzz_python,
     fuzz_tools,
+    heads,
     judged,
     levels,
     limits,
@@ -50,6 +53,9 @@ CHECKS: dict[str, Check] = {
     "calls": calls,
     "reach": reach,
     "levels": levels,
+    "declarations": declarations,
+    "call-table": call_table,
+    "heads": heads,
     "names": names,
     "numbers": numbers,
     "sizes": sizes,

@@ -1,8 +1,8 @@
 """Inputs of the tools that are wrong in all ways.
 
 Changes replies, traces, sets, images, logs of QEMU, tables of KVM and recordings, which are those of examples/ and of
-the tests, draws the tools' words, and runs each tool on them. A tool has to end with one of its statuses; with 2 only
-if a message that begins with its name says why; never by an error of its own; and in bounded time. A text differs
+the tests, draws the tools' words, and runs each tool on them. A tool has to end with one of its statuses; with 2 or 4
+only if a message that begins with its name says why; never by an error of its own; and in bounded time. A text differs
 from itself never, and a tool that fails has written no file. Most runs are in this process, and some are processes of
 their own. The files of a run that fails are kept in the folder that is told.
 """
@@ -33,8 +33,9 @@ from crates import TOP
 TOOLS = TOP / "tools"
 FOLDERS = {"judge-recording": TOOLS / "qemu-papr"}
 ANSWERS = {"diff", "why", "bad-line", "judge-recording", "find-order"}  # tools for which 1 is an answer
-BY_PROGRAM = {"why", "bad-line", "judge-recording", "find-order"}  # tools that ask the launcher for the program
-REFUSED, UNDECIDED = 2, 3
+# Tools that ask the launcher for the program.
+BY_PROGRAM = {"why", "groups", "bad-line", "judge-recording", "find-order"}
+REFUSED, UNDECIDED, UNWRITTEN = 2, 3, 4
 SECONDS = 10  # of the processor for a run here
 PATIENCE = 120  # seconds for one that is a process
 APART = 0.4  # of the time is for processes
@@ -55,14 +56,14 @@ class Told:
 
 def fault_of(case: Case, told: Told) -> str:
     """What is wrong with how a run ended."""
-    statuses = {0, REFUSED} | ({1} if case.tool in ANSWERS else set())
+    statuses = {0, REFUSED, UNWRITTEN} | ({1} if case.tool in ANSWERS else set())
     statuses |= {UNDECIDED} if case.tool == "find-order" else set()
     if told.status not in statuses:
         return f"status {told.status}: {told.message[-300:]!r}"
     if "Traceback" in told.message or ": an error in " in told.message:
         return f"an error of its own: {told.message[-300:]!r}"
     last = told.message.rstrip("\n").rpartition("\n")[2]
-    if told.status == REFUSED and case.tool != "judge-recording" and not last.startswith(f"{case.tool}: "):
+    if told.status in (REFUSED, UNWRITTEN) and case.tool != "judge-recording" and not last.startswith(f"{case.tool}: "):
         return f"no message: {told.message[-300:]!r}"
     if case.tool == "diff" and case.words[-1] == case.words[-2] and told.status == 1:
         return "the text differs from itself"
@@ -102,7 +103,7 @@ class Here:
         """What a tool does. The program is the one that was named."""
         if tool not in self._modules:
             self._modules[tool] = loaded(tool)
-            for module in (self._modules[tool], sys.modules.get("judging")):
+            for module in (self._modules[tool], sys.modules.get("judging"), sys.modules.get("asking")):
                 if module is not None and hasattr(module, "program"):
                     setattr(module, "program", lambda: self._program)
         main: Callable[[], Optional[int]] = self._modules[tool].main

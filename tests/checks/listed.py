@@ -1,18 +1,14 @@
-"""The tables of the documents that list definitions and crates, against the files."""
+"""The tables of the documents that list definitions, against the files."""
 
 import re
 from dataclasses import dataclass, field
-from pathlib import Path
 from typing import Iterator
 
 from checks.cited import WORD
 from checks.declared import Declared
 
 RULE = re.compile(r"\|[-:| ]+\|")
-HEAD_OF_CRATES = ["crate", "what it is for"]
-HEAD_OF_MODULES = ["crate", "modules of `specs/` and what they hold"]
 NAME = re.compile(r"[A-Za-z]\w*")
-MODULE = re.compile(r"[A-Z]\w*")
 # A file, and in parentheses names of it; and a name with the file of its definition behind it.
 IN_FILE = re.compile(r"`([\w/]+\.(?:antt|rt))` \(((?:`\w+`(?:, )?)+)\)")
 HAS_FILE = re.compile(r"(`\w+`)\**(?:,| \()\s?`((?:\w+/specs/)?\w+\.antt)`")
@@ -104,37 +100,3 @@ def faults_of_places(known: Declared, text: str) -> Iterator[str]:
         files = [it for path, it in known.of_file.items() if path.endswith(f"/{file}")]
         there = known.crates.union(*files)
         yield from (f"{file} has no `{name}`" for name in WORD.findall(names) if name not in there)
-
-
-def rows_below(text: str, head: list[str]) -> list[list[str]]:
-    """The rows of the table with this head."""
-    return [row for table in tables_of(text) if table.head[: len(head)] == head for row in table.rows]
-
-
-def faults_of_crates(crates: set[str], text: str) -> Iterator[str]:
-    """Crates without a row that says what they are for, and rows of no crate."""
-    cells = [row[0].partition(" of ")[0] for row in rows_below(text, HEAD_OF_CRATES)]
-    listed = WORD.findall(" ".join(cells))
-    yield from (f"no row says what {name} is for" for name in sorted(crates - set(listed)))
-    yield from (f"there is no crate {name}" for name in listed if name not in crates)
-
-
-def modules_of(known: Declared) -> dict[str, set[str]]:
-    """The modules of definitions of each crate."""
-    found: dict[str, set[str]] = {}
-    for path in known.of_file:
-        parts = path.split("/")
-        if parts[0] == "crates" and parts[2] == "specs" and parts[3] != "Lib.antt":
-            found.setdefault(parts[1], set()).add(Path(path).stem)
-    return found
-
-
-def faults_of_modules(known: Declared, text: str) -> Iterator[str]:
-    """Modules of definitions that the row of their crate lacks, and those of a row that aren't there."""
-    there = modules_of(known)
-    rows = {WORD.findall(row[0])[0]: row[1] for row in rows_below(text, HEAD_OF_MODULES)}
-    for crate in sorted(there.keys() | rows.keys()):
-        listed = {name for name in WORD.findall(rows.get(crate, "")) if MODULE.fullmatch(name)}
-        missing, others = there.get(crate, set()) - listed, listed - there.get(crate, set())
-        yield from (f"the row of {crate} lacks the module {name}" for name in sorted(missing))
-        yield from (f"{crate} has no module {name}" for name in sorted(others))

@@ -1,14 +1,13 @@
 """Whether the names in the documents about the code are there.
 
-These are PROVED.md, MODEL.md, ARCHITECTURE.md, LIBRARY.md, DECISIONS.md, REFUSALS.md, CALLS.md and HOSTILE.md
-of docs/; `standard` looks up the names of STANDARD.md. Each name in backticks is looked up: of a crate, a
+These are PROVED.md, MODEL.md, ARCHITECTURE.md, LIBRARY.md, DECISIONS.md, REFUSALS.md, CALLS.md, HOSTILE.md and
+HARDWARE.md of docs/; `standard` looks up the names of STANDARD.md. Each name in backticks is looked up: of a crate, a
 module, a file or folder, a function, a type, a definition, a lemma, a C function, a command, or a word of the
 program. A name after its crate or type has to be of that one, and so has a name before ` of ` and a crate;
 clauses have to be the function's. What no source here declares is in the list `ELSEWHERE`, by what has it.
 
 The tables that list definitions are compared with the files: each name of a row has to be in the file that
-the row names. In ARCHITECTURE.md each crate has a row, and in the row of its definitions each module of its
-specs/.
+the row names. (`heads` writes the tables of crates and of their modules.)
 """
 
 import argparse
@@ -18,12 +17,12 @@ from typing import Callable, Iterable, Iterator
 
 from checks.cited import WORD, Clauses, clauses_of, faults_of_clauses
 from checks.declared import Declared, read_declared
-from checks.listed import faults_of_crates, faults_of_modules, faults_of_places, faults_of_rows
+from checks.listed import faults_of_places, faults_of_rows
 from checks.rattle import read_functions
 from checks.running import Failed
 from crates import TOP
 
-PAGES = ("PROVED", "MODEL", "ARCHITECTURE", "LIBRARY", "DECISIONS", "REFUSALS", "CALLS", "HOSTILE")
+PAGES = ("PROVED", "MODEL", "ARCHITECTURE", "LIBRARY", "DECISIONS", "REFUSALS", "CALLS", "HOSTILE", "HARDWARE")
 FENCED = re.compile(r"^```.*?^```$", re.MULTILINE | re.DOTALL)
 LONE = re.compile(r"\w+(?:-\w+)*!?")
 FILE = re.compile(r"[\w.-]+(?:/[\w.-]+)*/?")
@@ -37,7 +36,7 @@ LETTER = re.compile(r"[a-z]")
 ELSEWHERE = {
     "the C library": (
         *("calloc", "fork", "free", "longjmp", "malloc", "memcpy", "memmove", "memset", "pthread_cancel"),
-        *("realloc", "sched_yield"),
+        *("realloc", "sched_yield", "LD_LIBRARY_PATH", "_FORTIFY_SOURCE"),
     ),
     "Rust and its standard library": (
         *("AllocError", "Arc", "Box", "Clone", "Snapshot", "String", "Sync", "Vec", "Vec::reserve", "no_std", "std"),
@@ -55,11 +54,17 @@ ELSEWHERE = {
         *("clang-19", "dpkg-deb", "pkg-config", "sha256sum"),
         *("gcc-aarch64-linux-gnu", "gcc-powerpc64le-linux-gnu", "gcc-riscv64-linux-gnu"),
     ),
-    "forms of other programs": ("# %%", "pcfiledir", "prerm", "-lpapr", "-static"),
+    "the Power ISA": ("eieio", "ld", "ldarx", "ptesync", "std", "stdcx.", "tlbie", "tlbsync"),
+    "Linux": (
+        *("HPTE_V_HVLOCK", "do_tlbies", "hpte[0]", "hpte[1]", "kvmppc_do_h_enter", "kvmppc_do_h_remove"),
+        *("kvmppc_h_clear_mod", "kvmppc_h_read", "arch/powerpc/kvm/book3s_hv_rm_mmu.c"),
+    ),
+    "forms of other programs": ("# %%", "pcfiledir", "prerm", "-lpapr", "-static", "-fstack-clash-protection"),
+    "options of compilers": ("-fstack-protector-strong", 'RUSTFLAGS="-C link-arg=-Wl,-rpath,$PAPR_LIB_DIR"'),
     "what is built or installed": (
         *(".git/papr-build", "crates/papr_c/out/libpapr_c.a", "out/aarch64", "out/ppc64le", "out/riscv64", "out/lib"),
         *("libpapr.a", "libpapr.so", "libpapr.so.0", "libpapr.so.0.1.0", "libpapr_shared.a"),
-        *("libpapr_bytes.a", "libpapr_bytes.so.0", "papr.pc", "papr_shared.pc", "libpapr0", "libpapr-dev"),
+        *("libpapr_bytes.so.0", "papr.pc", "papr_shared.pc", "libpapr0", "libpapr-dev"),
     ),
     "an example of a caller's own": (
         *("../emulator/crates", "../emulator/crates.txt", "crates/first_walk/src/main.rt"),
@@ -148,20 +153,6 @@ def faults(known: Declared, clauses: Clauses, text: str) -> Iterator[str]:
     yield from faults_of_places(known, bare)
 
 
-def faults_of_architecture(known: Declared, text: str) -> Iterator[str]:
-    """What its two tables of crates lack, or have too much."""
-    parts = [path.split("/") for path in known.of_file]
-    yield from faults_of_crates({it[1] for it in parts if it[0] == "crates"}, text)
-    yield from faults_of_modules(known, text)
-
-
-def faults_of_page(known: Declared, clauses: Clauses, page: str, text: str) -> Iterator[str]:
-    """What is wrong with the names of a page, whose text this is."""
-    yield from faults(known, clauses, text)
-    if page == "ARCHITECTURE":
-        yield from faults_of_architecture(known, text)
-
-
 def unneeded(texts: Iterable[str]) -> Iterator[str]:
     """What the list of names that are declared elsewhere has, and no page."""
     quotes = {" ".join(it.split()) for text in texts for it in WORD.findall(FENCED.sub("", text))}
@@ -181,7 +172,7 @@ def add_options(_parser: argparse.ArgumentParser) -> None:
 def check(_given: argparse.Namespace) -> str:
     """All names of the pages."""
     known, clauses, texts = read_declared(TOP), clauses_of(read_functions(TOP)), texts_of_pages()
-    found = ((page, faults_of_page(known, clauses, page, text)) for page, text in texts.items())
+    found = ((page, faults(known, clauses, text)) for page, text in texts.items())
     wrong = [f"docs/{page}.md: {fault}" for page, faults_there in found for fault in faults_there]
     wrong += unneeded(texts.values())
     if wrong:

@@ -9,6 +9,17 @@ from typing import Sequence
 from checks.running import Failed
 from crates import TOP
 
+# A comment of one line, by the ending of a page or a source.
+COMMENTS = {
+    ".md": "<!-- {} -->",
+    ".5": '.\\" {}',
+    ".py": "# {}",
+    ".rs": "// {}",
+    ".js": "// {}",
+    ".h": "/* {} */",
+    ".c": "/* {} */",
+}
+
 
 @dataclass(frozen=True)
 class Table:
@@ -16,19 +27,27 @@ class Table:
 
     page: Path
     check: str
+    part: str = ""  # which of the check's tables it is, where the page has several
+    indent: int = 0  # columns that its markers are set in
+
+    def marker(self, place: str) -> str:
+        """The line at one end of the table: a comment, as the page's language has it."""
+        part = f", {self.part}" if self.part else ""
+        comment = COMMENTS[self.page.suffix].format(f"tests/check {self.check}{part}: {place}")
+        return f"{' ' * self.indent}{comment}\n"
 
     @property
     def begin(self) -> str:
         """The line before the table."""
-        return f"<!-- tests/check {self.check}: begin -->\n"
+        return self.marker("begin")
 
     @property
     def end(self) -> str:
-        """The line behind it."""
-        return f"<!-- tests/check {self.check}: end -->\n"
+        """The line after it."""
+        return self.marker("end")
 
     def parts(self) -> tuple[str, str, str]:
-        """What stands before the table, the table, and what stands behind it."""
+        """What is before the table, the table, and what is after it."""
         text = self.page.read_text(encoding="utf-8")
         before, begin, rest = text.partition(self.begin)
         table, end, after = rest.partition(self.end)

@@ -1,14 +1,15 @@
 """Phrases that no document and no message has, each with its better words.
 
-Looks at the documents, the manual pages, the headers for C, the page for a browser, and the messages of
-the tools: their strings, and the sentence on top that `--help` shows. Names and code, in backticks or
-indented, are left out.
+Looks at the documents, the manual pages, the headers for C, the page for a browser, the comments of the crates,
+and the messages of the tools: their strings, and the sentence on top that `--help` shows. Names and code, in
+backticks or indented, are left out.
 """
 
 import argparse
 import ast
 import re
 from dataclasses import dataclass
+from functools import partial
 from pathlib import Path
 from typing import Callable, Iterator, Optional
 
@@ -17,8 +18,10 @@ from crates import TOP
 
 DOCUMENTS = ("*.md", "docs/*.md", "examples/*.md", "bindings/*/*.md")
 OTHERS = ("man/*.[15]", "include/*.h", "page/page.html", "page/js/*.js")
+IN_CRATES = ("crates/*/src/**/*.rt", "crates/*/specs/*.antt", "crates/*/proofs/*.antt")
 TOOLS = ("papr", "tools/**/*", "page/build-page", "bindings/python/papr/*.py", "bindings/python/build-wheel")
 COMMENT = re.compile(r"/\*.*?\*/", re.DOTALL)
+OF_CODE, OF_ANTT = re.compile(r"(?:^|\s)//[/!]?\s(.*)$"), re.compile(r"^\s*--\s(.*)$")
 
 
 @dataclass(frozen=True)
@@ -92,6 +95,14 @@ def comments(text: str) -> Lines:
         yield from enumerate(found[0].splitlines(), first)
 
 
+def after(mark: re.Pattern[str], text: str) -> Lines:
+    """What follows the mark of a comment in each line, without names."""
+    for number, line in enumerate(text.splitlines(), 1):
+        found = mark.search(line)
+        if found:
+            yield number, re.sub(r"`[^`]*`", "`", found[1])
+
+
 def strings(text: str) -> Lines:
     """The strings of a script of Python, without those that say what a class or a function is."""
     tree = ast.parse(text)
@@ -121,6 +132,8 @@ READERS: dict[str, Callable[[str], Lines]] = {
     ".html": without_marks,
     ".js": quoted,
     ".py": strings,
+    ".rt": partial(after, OF_CODE),
+    ".antt": partial(after, OF_ANTT),
 }
 
 
@@ -142,13 +155,19 @@ def faults(path: Path) -> Iterator[str]:
                 yield f"{path.relative_to(TOP)}:{number}: `{found[0]}`; better: {phrase.better}"
 
 
-def add_options(_parser: argparse.ArgumentParser) -> None:
-    """This check has no options."""
+def is_asked(path: Path, crates: list[str]) -> bool:
+    """Whether a file is to be looked at: any, or that of one of these crates."""
+    return not crates or path.relative_to(TOP).parts[:1] == ("crates",) and path.relative_to(TOP).parts[1] in crates
 
 
-def check(_given: argparse.Namespace) -> str:
+def add_options(parser: argparse.ArgumentParser) -> None:
+    """The options of this check."""
+    parser.add_argument("crates", metavar="CRATE", nargs="*", help="look at these crates alone")
+
+
+def check(given: argparse.Namespace) -> str:
     """All files by all phrases."""
-    looked_at = list(paths(DOCUMENTS + OTHERS + TOOLS))
+    looked_at = [path for path in paths(DOCUMENTS + OTHERS + IN_CRATES + TOOLS) if is_asked(path, given.crates)]
     found = [fault for path in looked_at for fault in faults(path)]
     if found:
         raise Failed("\n".join(["phrases with better words", *found]))

@@ -41,7 +41,7 @@ class Copies:
     times: int
 
     def bytes(self) -> bytes:
-        """The copies, one behind the other."""
+        """The copies, one after the other."""
         parts = NUMBER.split(self.text)
 
         def one(copy: int) -> Iterator[str]:
@@ -67,7 +67,7 @@ class Case:
     input: Text
     status: int
     output: Text
-    ends: bytes = b""  # the input ends behind each of these bytes in turn, which stand behind the others
+    ends: bytes = b""  # the input ends after each of these bytes in turn, which come after the others
     each_fault: bool = False
 
     def runs(self) -> Iterator["Run"]:

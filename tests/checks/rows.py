@@ -24,34 +24,34 @@ HEAD = """\
 # A line's first word is a command:
 #
 #   row NAME             begins a row, of which nothing is said so far: its texts are empty
-#   words, word WORD     begins the words of the program anew, and adds one
-#   read-piece N         a read gives at most N bytes; 4096 where nothing is said
+#   words, word WORD     begins the words of the program again, and adds one
+#   read-piece N         a read gives at most N bytes; 4096 if nothing is said
 #   read-fault N         read N fails, numbered from 1; 0 is none
 #   write-piece N, write-fault N
 #                        the same of writes
-#   input, output        begins the input, or the output that must come, anew
-#   < TEXT, > TEXT       puts TEXT and a line feed behind the input, or behind the output
+#   input, output        begins the input, or the expected output, again
+#   < TEXT, > TEXT       puts TEXT and a line feed after the input, or after the output
 #   <. TEXT, >. TEXT     TEXT alone
 #   <b BYTE              a byte, by its number
 #   <* TIMES, >* TIMES   copies of the pattern; {8+2} in it is 8 in the first and 2 more in each further one, and
 #                        {0x8+2} the same in hexadecimal
-#   pattern              begins the pattern anew
-#   * TEXT, *. TEXT      puts TEXT behind it, with a line feed or alone
-#   status N             the status that must come; 0 where nothing is said
+#   pattern              begins the pattern again
+#   * TEXT, *. TEXT      puts TEXT after it, with a line feed or alone
+#   status N             the expected status; 0 if nothing is said
 #   run                  runs the program over what is said
 #   end                  ends the row
 """
 
 
 def added(sign: str, line: str) -> str:
-    """The command that puts a line, or a piece of one, behind a text."""
+    """The command that puts a line, or a piece of one, after a text."""
     if not line.endswith("\n"):
         return f"{sign}. {line}"
     return sign if line == "\n" else f"{sign} {line[:-1]}"
 
 
 def commands_of(piece: Union[Plain, Copies], sign: str) -> Iterator[str]:
-    """The commands that put a piece behind the text of this sign."""
+    """The commands that put a piece after the text of this sign."""
     if isinstance(piece, Copies):
         yield "pattern"
         yield from (added("*", line) for line in piece.text.splitlines(keepends=True))

@@ -112,7 +112,13 @@ class Cases:
         reason = self.one(["word", "number", "ascii", "entry", "place", "window", "overlap", "cpu", "lines", "x"])
         told = self.some(["--known", f"line {self.draw.choice([0, 1, 5, 9, 10**25])}: {reason}"])
         is_set = self.draw.random() < 0.3
-        return Case("why", [*(["--set"] if is_set else []), *told, "-"], changed(self.draw, SETS if is_set else TRACES))
+        lines = [] if is_set else self.some([self.one(RANGES)])
+        words = [*(["--set"] if is_set else []), *told, "-", *lines]
+        return Case("why", words, changed(self.draw, SETS if is_set else TRACES))
+
+    def groups(self) -> Case:
+        """The table at any line."""
+        return Case("groups", [*self.some(["--at", self.one(NUMBERS)]), "-"], changed(self.draw, TRACES))
 
     def bad_line(self) -> Case:
         """Replies of a trace, one of them or both changed."""
@@ -126,7 +132,8 @@ class Cases:
         trace, replies = TRACES[place : place + 1] or TRACES, REPLIES[place : place + 1]
         files = [self.file("trace", trace), self.file("replies", replies)]
         steps = self.draw.choice(["100", "10000", self.one(NUMBERS)])
-        return Case("find-order", [*self.some(["--strict"]), "--steps", steps, *files])
+        allowed = self.some(["--allow", self.one(["kvm", "bit-62", "words-of-empty"])])
+        return Case("find-order", [*allowed, "--steps", steps, *files])
 
     def cut_trace(self) -> Case:
         """Traces that are cut."""
@@ -179,6 +186,7 @@ class Cases:
         """A case of some tool."""
         kinds: list[Callable[[], Case]] = [
             *(self.receipts, self.run_picture, self.entry_history, self.diff, self.decode, self.why, self.bad_line),
+            self.groups,
             *(self.find_order, self.cut_trace, self.htab_to_entries, self.qemu_log_to_trace, self.judge_recording),
         ]
         return self.draw.choice(kinds)()

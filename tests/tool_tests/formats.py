@@ -22,3 +22,17 @@ def causes_of_entries() -> list[str]:
     below = formats.partition("one of these holds:\n\n")[2].partition("\n\n")[0]
     items = re.split(r"(?m)^- ", below)[1:]
     return [" ".join(item.split()).rstrip(";.") for item in items]
+
+
+def codes() -> dict[str, str]:
+    """The value of each return code, by its name."""
+    formats = (DOCS / "FORMATS.md").read_text(encoding="utf-8")
+    below = formats.split("\n### Codes\n")[1].split("\n#")[0]
+    return dict(re.findall(r"(?m)^\| (H_[A-Z_0-9]+) \| (-?[0-9]+) \|", below))
+
+
+def code_row(name: str) -> str:
+    """When a return code comes."""
+    formats = (DOCS / "FORMATS.md").read_text(encoding="utf-8")
+    found = re.search(rf"(?m)^\| {name} \| [^|]* \| (.*) \|$", formats)
+    return found[1] if found else ""

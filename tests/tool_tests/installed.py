@@ -18,6 +18,7 @@ COMMANDS = (
     "papr-cut",
     "papr-entries",
     "papr-decode",
+    "papr-groups",
     "papr-diff",
 )
 FORMATS = ("papr-trace", "papr-replies")

@@ -50,7 +50,7 @@ def replies_of(path: Path) -> str:
 
 
 # Characters that a word of a foreign text can have and XML can't write, and how a picture shows them.
-STRANGE = "".join(chr(code) for code in range(32) if not chr(code).isspace())
+STRANGE = "".join(chr(code) for code in range(1, 32) if not chr(code).isspace())
 SHOWN = "".join(f"\\x{ord(letter):02x}" for letter in STRANGE)
 
 

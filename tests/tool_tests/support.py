@@ -23,6 +23,7 @@ BYTES_LIBRARY = Path(os.environ.get("PAPR_BYTES_LIBRARY", TOP / "crates/papr_byt
 
 PATIENCE = 900  # seconds that a command may take
 SHOWN = 60  # lines of a difference
+A_TRACE = "this is a trace; run it first: papr run TRACE > REPLIES"  # what tools say that read replies
 
 Word = Union[str, Path]
 Text = Union[str, bytes, Path]

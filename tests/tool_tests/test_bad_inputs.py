@@ -85,7 +85,7 @@ class Replies(ReplyTest):
         """The superscript two is a digit for Python, and no number."""
         words = {"diff": ("-", str(EXAMPLES / "first.replies")), "decode": ("-",)}.get(tool, READERS[tool])
         ran = run(TOOLS / tool, *words, given="² 0 H_ENTER 0 | 0x1.1.0.entered\n", environment=UTF_8)
-        self.assert_refused(ran, f"{tool}: the input has the byte 0xc2, which isn't ASCII")
+        self.assert_refused(ran, f"{tool}: standard input has the byte 0xc2, which isn't ASCII")
 
     def test_words_of_replies_are_numbers(self) -> None:
         text = "4 0 H_READ 0 0x1_0 0x2 | 0x20.0.0.read\n"
@@ -160,7 +160,7 @@ class Streams(ToolTest):
     @for_each(*INPUTS)
     def test_closed_standard_output(self, tool: str) -> None:
         ran = self.by_shell(tool, ">&-")
-        self.assertEqual((ran.status, ran.out), (2, ""), ran.err)
+        self.assertEqual((ran.status, ran.out), (4, ""), ran.err)
         self.assertEqual(ran.err.splitlines()[-1], f"{tool}: standard output: {CLOSED}")
 
     def test_closed_standard_error(self) -> None:

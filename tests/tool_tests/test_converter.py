@@ -1,10 +1,9 @@
 """Tests of the converter of QEMU's logs."""
 
-from .support import DATA, PROGRAM, TOOLS, Ran, ToolTest, for_each, missing, needs_program, run, run_bytes
+from .support import DATA, PROGRAM, TOOLS, Ran, ToolTest, needs_program, run
 
 CONVERT = TOOLS / "qemu-log-to-trace"
 LOG, TRACE = DATA / "small.log", DATA / "small.trace"
-COMPRESSORS = ("gzip", "xz", "bzip2", "zstd")
 
 TITLE = "# Page table calls of a guest under QEMU, from its log\n"
 OTHERS = "other calls passed over (most: 0xf005 1, 0x58 1): 2"
@@ -127,17 +126,6 @@ class Refusals(ToolTest):
 
     def test_an_option_that_is_not_one(self) -> None:
         self.refuses("error: unrecognized arguments: --frob", "--frob")
-
-    @for_each(*COMPRESSORS)
-    def test_a_log_compressed_by(self, compressor: str) -> None:
-        """The message is the command that expands it."""
-        if missing(compressor):
-            self.skipTest(f"{compressor} is not installed")
-        log = self.folder / "small.compressed"
-        log.write_bytes(run_bytes(compressor, "-c", str(LOG)))
-        message = "qemu-log-to-trace: the log is compressed; try `{} -dc {} | qemu-log-to-trace`"
-        self.assert_refused(run(CONVERT, log), message.format(compressor, log))
-        self.assert_refused(run(CONVERT, given=log), message.format(compressor, "LOG"))
 
 
 @needs_program

@@ -58,6 +58,24 @@ class Packed(DebianTest):
         for name in PACKAGES:
             self.assertEqual(self.field(name, "Version"), VERSION)
 
+    def test_the_maintainer_is_the_one_of_the_makefile(self) -> None:
+        """The one place; as of the page on the web, which the project doesn't have yet."""
+        makefile = (TOP / "Makefile").read_text(encoding="utf-8")
+        named = dict(re.findall(r"(?m)^(MAINTAINER|HOMEPAGE) \?= ?(.*)$", makefile))
+        self.assertRegex(named["MAINTAINER"], r"^[^<>]+ <[^<>@]+@[^<>@]+>$")
+        for package in PACKAGES:
+            self.assertEqual(self.field(package, "Maintainer"), named["MAINTAINER"])
+            self.assertEqual(self.field(package, "Homepage"), named["HOMEPAGE"])
+
+    def test_a_home_page_that_is_named_is_in_the_packages(self) -> None:
+        place = "https://papr.example"
+        folder = self.folder / "named"
+        folder.mkdir()
+        words = [f"dist={folder / 'dist'}", f"HOMEPAGE={place}", *words_of(make_built(folder))]
+        self.assertEqual(run("make", "-s", "-C", TOP, "deb", *words).status, 0)
+        for package in (folder / "dist").glob("*.deb"):
+            self.assertEqual(run("dpkg-deb", "-f", package, "Homepage").out, f"{place}\n")
+
     def test_the_commands_and_their_pages(self) -> None:
         wanted = {
             "/usr/libexec/papr/papr",

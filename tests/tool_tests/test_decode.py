@@ -147,14 +147,14 @@ class Texts(DecodeTest):
         page = "      VSID 0x1 page 0x5, 4 KB at 0x3000, rw/rw, M, key 0, bolted"
         for number in (22, 23, 25):
             at = next(at for at, line in enumerate(lines) if line.startswith(f"{number} "))
-            self.assertEqual(lines[at + 2], page)
+            self.assertIn(page, lines[at + 2 : at + 4])
 
     def test_a_trace_tells_what_was_entered_and_the_order(self) -> None:
         ran = self.decode("--trace", EXAMPLES / "sharing.trace", SHARING)
         self.assert_ran(ran, out=None)
         lines = ran.out.splitlines()
         at = next(at for at, line in enumerate(lines) if line.startswith("9 0 H_ENTER"))
-        self.assertEqual(lines[at + 2], "      VSID 0x1 page 0x5, 4 KB at 0x3000, rw/-, M, key 0, bolted")
+        self.assertEqual(lines[at + 3], "      VSID 0x1 page 0x5, 4 KB at 0x3000, rw/-, M, key 0, bolted")
 
     def test_a_dump_has_its_entries_explained(self) -> None:
         dump = "5 dump table 0 order 18 place 0x1000000000 entries 1\n 0x27 0x1001 0x3192 7\n"

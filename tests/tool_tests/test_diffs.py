@@ -1,6 +1,6 @@
 """Tests of the comparison of two texts of replies."""
 
-from .support import DATA, EXAMPLES, TOOLS, ToolTest, run
+from .support import A_TRACE, DATA, EXAMPLES, TOOLS, ToolTest, run
 
 DIFF = TOOLS / "diff"
 ONE = """\
@@ -84,7 +84,7 @@ class Differences(ToolTest):
 
     def test_what_is_no_replies(self) -> None:
         ran = run(DIFF, self.folder / "one", EXAMPLES / "first.trace")
-        self.assert_refused(ran, "diff: this is no reply: order 18")
+        self.assert_refused(ran, f"diff: {A_TRACE}")
         self.assert_refused(run(DIFF, "none", "none"), "diff: none: No such file or directory")
 
     def test_the_tool_has_help(self) -> None:

@@ -7,7 +7,7 @@ from typing import Optional
 
 from .calls import log_of, trace_of, without_receipts
 from .installed import InstalledTest
-from .support import PROGRAM, TOOLS, Ran, ToolTest, for_each, run
+from .support import PROGRAM, TOOLS, TOP, Ran, ToolTest, for_each, run
 
 # How many texts of `papr par` lose their receipts; a run by hand may ask for more.
 TEXTS = int(os.environ.get("PAPR_ORDERS", "40"))
@@ -74,6 +74,40 @@ PASSED = """4 0 H_ENTER 0 0x31 @ 10 20
 HEAD = "cpus 2\nram 0x0 0x2000000000 0x40000000\nbegin\n"
 ENTERED = "0 H_ENTER 0x8000000000 0x20 0x1001 0x3012\n"
 
+# Processor 1's cached translation still serves a store after its H_READ saw V clear, so the removal comes later.
+READ_TRACE = f"{TORN_READ_TRACE}1 slbmte 0x8000000 0x1000\n1 store 0x5008 priv\n"
+READ = """5 0 H_ENTER 0 0x20 @ 0 5
+6 1 H_READ 0 0x1000 0x51d1012 @ 12 15
+7 0 H_REMOVE 0 0x1001 0x801192 @ 10 60
+8 1 slbmte ok @ 16 17
+9 1 store at 0x2000801008 @ 20 40
+"""
+# The read comes after the removal has ended.
+EMPTY = """5 0 H_ENTER 0 0x20 @ 0 5
+6 1 H_READ 0 0x0 0x51d1012 @ 12 15
+7 0 H_REMOVE 0 0x1001 0x801012 @ 6 10
+"""
+MARKED_TRACE = f"{HEAD}{ENTERED}0 H_CLEAR_MOD 0x0 0x20\n"
+MARKED = "4 0 H_ENTER 0 0x20\n5 0 H_CLEAR_MOD 0 0x4000000000003012\n"
+# A text that needs each difference.
+CASES = {
+    "words-of-empty": (TORN_READ_TRACE, EMPTY),
+    "read-in-removal": (READ_TRACE, READ),
+    "bit-62": (MARKED_TRACE, MARKED),
+    "enter-past-locked": (PASSED_TRACE, PASSED),
+    "clear-ref-in-two-steps": (CLEAR_REF_TRACE, CLEAR_REF),
+}
+# The same with a change after which it is none: another bit, or nothing beside the call.
+OTHERS = (
+    ("words-of-empty", "0x0 0x51d1012", "0x1 0x51d1012"),
+    ("read-in-removal", "0x1000 0x51d1012", "0x1080 0x51d1012"),
+    ("read-in-removal", "0x801192 @ 10 60", "0x801192 @ 18 60"),
+    ("bit-62", "0x4000000000003012", "0x2000000000003012"),
+    ("enter-past-locked", "-7 @ 10 20", "-7 @ 21 30"),
+    ("clear-ref-in-two-steps", "0x800112", "0x800012"),
+    ("clear-ref-in-two-steps", "0x800093", "0x800013"),
+)
+
 
 class Words(ToolTest):
     """The tool's words."""
@@ -107,42 +141,83 @@ class Examples(OrderTest):
     """What was seen of KVM, and known differences."""
 
     def test_a_clearing_in_two_steps(self) -> None:
-        self.assert_ran(self.find(CLEAR_REF_TRACE, CLEAR_REF), "good except for clear-ref-in-two-steps 1\n")
-        self.assertEqual(self.judged, (CLEAR_REF_TRACE, CLEAR_REF_JUDGED))
+        ran = self.find(CLEAR_REF_TRACE, CLEAR_REF, "--allow", "clear-ref-in-two-steps")
+        self.assert_ran(ran, "good except for clear-ref-in-two-steps 1\n")
+        noted = "# clear-ref-in-two-steps: 7 2 H_CLEAR_REF 0x0 0x28 -> 0 0x800112 @ 20 50\n"
+        self.assertEqual(self.judged, (CLEAR_REF_TRACE + noted, CLEAR_REF_JUDGED))
+
+    @for_each(*CASES)
+    def test_the_text_with_notes_is_one_that_papr_calls_good(self, name: str) -> None:
+        trace, replies = CASES[name]
+        self.assert_ran(self.find(trace, replies, "--allow", name), f"good except for {name} 1\n")
+        self.assert_ran(run(PROGRAM, "check", given=(self.folder / "judged").read_text(encoding="ascii")), "good\n")
+
+    @for_each(*CASES)
+    def test_a_difference_that_is_not_allowed(self, name: str) -> None:
+        """Neither without an option, nor by the names of the others."""
+        others = [word for other in CASES if other != name for word in ("--allow", other)]
+        for options in (list[str](), others):
+            ran = self.find(*CASES[name], *options)
+            self.assert_ran(ran, out=None, status=1)
+            self.assertTrue(ran.out.startswith("no order of entry "), ran.out)
+
+    @for_each(*OTHERS)
+    def test_what_is_like_a_difference_and_is_none(self, case: tuple[str, str, str]) -> None:
+        name, before, after = case
+        trace, replies = CASES[name]
+        self.assertEqual(replies.count(before), 1)
+        ran = self.find(trace, replies.replace(before, after), "--allow", "kvm")
+        self.assert_ran(ran, out=None, status=1)
+        self.assertTrue(ran.out.startswith("no order"), ran.out)
+
+    def test_a_name_of_no_difference(self) -> None:
+        ran = self.find(TORN_READ_TRACE, TORN_READ, "--allow", "kvx")
+        self.assertEqual(ran.status, 2)
+        self.assertIn("invalid choice: 'kvx'", ran.err)
+
+    def test_each_name_has_a_row_in_the_documents(self) -> None:
+        page = (TOP / "docs" / "COMPATIBILITY.md").read_text(encoding="utf-8")
+        rows = re.findall(r"(?m)^\| `([a-z0-9-]+)` \|.* \|$", page.partition("that `papr find-order` allows")[2])
+        self.assertEqual(rows, list(CASES))
+
+    def test_a_trace_without_room_for_notes(self) -> None:
+        """A trace has at most 2^17 lines, remarks too."""
+        full = TORN_READ_TRACE + "#\n" * (2**17 - TORN_READ_TRACE.count("\n"))
+        ran = self.find(full, TORN_READ, "--allow", "kvm")
+        message = "papr-find-order: the text has room for 0 of its 1 notes\n"
+        self.assert_ran(ran, "good except for words-of-empty 1\n", err=message)
 
     def test_a_clearing_in_two_steps_that_is_not_allowed(self) -> None:
-        self.assert_ran(self.find(CLEAR_REF_TRACE, CLEAR_REF, "--strict"), CLEAR_REF_ORDERS, status=1)
+        self.assert_ran(self.find(CLEAR_REF_TRACE, CLEAR_REF), CLEAR_REF_ORDERS, status=1)
 
     def test_a_clearing_in_two_steps_after_which_a_store_came(self) -> None:
         """A store that ended before H_CLEAR_REF began explains nothing."""
-        ran = self.find(CLEAR_REF_TRACE, CLEAR_REF.replace("@ 30 40", "@ 12 18"))
+        ran = self.find(CLEAR_REF_TRACE, CLEAR_REF.replace("@ 30 40", "@ 12 18"), "--allow", "kvm")
         self.assert_ran(ran, out=None, status=1)
         self.assertTrue(ran.out.startswith("no order of entry 0x28\n"), ran.out)
 
     def test_the_words_of_an_empty_entry(self) -> None:
-        self.assert_ran(self.find(TORN_READ_TRACE, TORN_READ), "good except for words-of-empty 1\n")
+        self.assert_ran(self.find(TORN_READ_TRACE, TORN_READ, "--allow", "kvm"), "good except for words-of-empty 1\n")
         self.assertIn("6 1 H_READ 0 0x0 0x0 | 0x20.", self.judged[1])
 
     def test_a_read_in_a_removal(self) -> None:
         """A store succeeds after the read, so that the removal comes later."""
-        trace = f"{TORN_READ_TRACE}1 slbmte 0x8000000 0x1000\n1 store 0x5008 priv\n"
-        replies = "7 0 H_REMOVE 0 0x1001 0x801192\n8 1 slbmte ok\n9 1 store at 0x2000801008\n"
-        ran = self.find(trace, TORN_READ.partition("7 0")[0] + replies)
+        ran = self.find(READ_TRACE, READ, "--allow", "kvm")
         self.assert_ran(ran, "good except for read-in-removal 1\n")
+        self.assertIn("\n6 1 H_READ 0 0x1001 0x801012 | 0x20.1.0.read\n", self.judged[1])
 
     def test_words_of_an_empty_entry_that_are_not_allowed(self) -> None:
-        ran = self.find(TORN_READ_TRACE, TORN_READ, "--strict")
+        ran = self.find(TORN_READ_TRACE, TORN_READ)
         self.assert_ran(ran, out=None, status=1)
         self.assertIn("\n> 6 1 H_READ 0x0 0x20 -> 0 0x1000 0x51d1012\n", ran.out)
 
     def test_bit_62(self) -> None:
-        replies = "4 0 H_ENTER 0 0x20\n5 0 H_CLEAR_MOD 0 0x4000000000003012\n"
-        ran = self.find(f"{HEAD}{ENTERED}0 H_CLEAR_MOD 0x0 0x20\n", replies)
+        ran = self.find(MARKED_TRACE, MARKED, "--allow", "kvm")
         self.assert_ran(ran, "good except for bit-62 1\n")
         self.assertIn("H_CLEAR_MOD 0 0x3012 | 0x20.1.0.was\n", self.judged[1])
 
     def test_an_entry_that_was_passed(self) -> None:
-        self.assert_ran(self.find(PASSED_TRACE, PASSED), "good except for enter-past-locked 1\n")
+        self.assert_ran(self.find(PASSED_TRACE, PASSED, "--allow", "kvm"), "good except for enter-past-locked 1\n")
         self.assertIn("\n0 H_ENTER 0x8000000000 0x31 0x1001 0x3012\n", self.judged[0])
         self.assertIn("4 0 H_ENTER 0 0x31 | 0x31.0.0.entered\n", self.judged[1])
 
@@ -206,13 +281,13 @@ class Receipts(OrderTest):
             with self.subTest(seed=seed):
                 trace = trace_of(seed, 3, 40, 8 if seed % 2 else 1)
                 told = run(PROGRAM, "par", given=trace).out
-                self.assert_ran(self.find(trace, without_receipts(told), "--strict"), "good\n")
+                self.assert_ran(self.find(trace, without_receipts(told)), "good\n")
 
     @for_each(1, 8)
     def test_a_run_with_times(self, pages: int) -> None:
         trace = trace_of(7, 4, 200, pages)
         log = log_of(trace, run(PROGRAM, "run", given=trace).out, 7, 60)
-        self.assert_ran(self.find(log.trace, log.replies, "--strict"), "good\n")
+        self.assert_ran(self.find(log.trace, log.replies), "good\n")
 
     def test_one_reply_that_is_changed(self) -> None:
         """With the doubleword of an H_REMOVE changed papr calls the text bad, and no order is found."""
@@ -226,7 +301,7 @@ class Receipts(OrderTest):
             with self.subTest(seed=seed):
                 found += 1
                 self.assertEqual(run(PROGRAM, "check", given=f"{trace}replies\n{wrong}").status, 6)
-                ran = self.find(trace, without_receipts(wrong), "--strict")
+                ran = self.find(trace, without_receipts(wrong))
                 self.assert_ran(ran, out=None, status=1)
                 self.assertRegex(ran.out, r"no order")
         self.assertGreater(found, TEXTS // 4)

@@ -9,7 +9,7 @@ sys.path[:0] = [str(TOOLS), str(TOP / "tests")]
 
 from checks.cited import Clauses, clauses_of  # noqa: E402
 from checks.declared import Declared, names_in, read_declared  # noqa: E402
-from checks.names import faults_of_page, texts_of_pages, unneeded  # noqa: E402
+from checks.names import faults, texts_of_pages, unneeded  # noqa: E402
 from checks.numbers import LIMITS, faults_of, number_of, texts_of  # noqa: E402
 from checks.rattle import read_functions  # noqa: E402
 from checks.running import Skipped  # noqa: E402
@@ -30,9 +30,6 @@ WRONG_NAMES = (
     ("MODEL", "| `is_table` |", "| `is_open` |", "c_layout/specs/Tables.antt has no `is_open`"),
     ("MODEL", "replies`, `SerialRun", "replies`, `Sections", "Sections.antt has no `serial_replies`"),
     ("MODEL", "`logged_histories_are_legal`", "`logs_are_legal`", "there is no `logs_are_legal`"),
-    ("ARCHITECTURE", "`Grants`, `Tables`", "`Grants`, `Hcalls`, `Tables`", "c_layout has no module Hcalls"),
-    ("ARCHITECTURE", "| `Generated`: the", "| the", "the row of trace_gen lacks the module Generated"),
-    ("ARCHITECTURE", "| `papr_main` | the", "| `papr_rows` | the", "no row says what papr_main is for"),
     ("ARCHITECTURE", "hash.rt` (`groups`)", "hash.rt` (`Hash`)", "hpt_hash/src/hash.rt has no `Hash`"),
     ("ARCHITECTURE", "`Tlb::drop_line`", "`Tlb::drop_page`", "there is no `Tlb::drop_page`"),
     ("ARCHITECTURE", "`tools/launcher.bash`", "`tools/launcher.sh`", "there is no `tools/launcher.sh`"),
@@ -70,7 +67,7 @@ def faults_with(page: str, there: str, instead: str) -> list[str]:
     text = texts_of_pages()[page]
     if there not in text:
         raise ValueError(f"{page} has no {there}")
-    return list(faults_of_page(*sources(), page, text.replace(there, instead, 1)))
+    return list(faults(*sources(), text.replace(there, instead, 1)))
 
 
 class Names(ToolTest):

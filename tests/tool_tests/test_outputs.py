@@ -13,6 +13,7 @@ from .support import DATA, EXAMPLES, TOOLS, Ran, ToolTest, Word, for_each, needs
 from .test_cuts import SUCCEEDS
 from .test_launcher import FOR_HELP, USAGE, LauncherTest
 
+UNWRITTEN = 4  # the status
 SMALLEST = 100  # bytes: a limit that each of the outputs passes
 TRACE = "".join(f"# line {number}\n" for number in range(100))
 
@@ -24,12 +25,11 @@ class Writer:
     before: list[Word]
     behind: list[Word]
     option: str
-    status: int = 2
 
 
 WRITERS = {
-    "run": Writer(["run", "t", "-o"], [], "-o", status=4),
-    "drill": Writer(["drill", "-o"], ["7", "0x10"], "-o", status=4),
+    "run": Writer(["run", "t", "-o"], [], "-o"),
+    "drill": Writer(["drill", "-o"], ["7", "0x10"], "-o"),
     "from-qemu": Writer(["from-qemu", "-o"], [DATA / "small.log"], "-o/--output"),
     "entries": Writer(["entries", "--debugfs", "-o"], [DATA / "htab.debugfs"], "-o/--output"),
     "receipts": Writer(["receipts", "--sqlite"], [EXAMPLES / "sharing.replies"], "--sqlite"),
@@ -180,14 +180,14 @@ class Names(WriterTest):
         (self.folder / "out").symlink_to("out")
         reason = "it can't be written" if command in OF_PROGRAM else "Too many levels of symbolic links"
         message = f"{name_of(command)}: out: {reason}\n"
-        self.assert_ran(self.write(command, "out"), status=WRITERS[command].status, err=message)
+        self.assert_ran(self.write(command, "out"), status=UNWRITTEN, err=message)
         self.assertEqual(self.left(), ["out", "t"])
 
     @for_each(*WRITERS)
     def test_a_folder_that_is_not_there(self, command: str) -> None:
         reason = "it can't be written" if command in OF_PROGRAM else "No such file or directory"
         message = f"{name_of(command)}: no/out: {reason}\n"
-        self.assert_ran(self.write(command, "no/out"), status=WRITERS[command].status, err=message)
+        self.assert_ran(self.write(command, "no/out"), status=UNWRITTEN, err=message)
 
     @for_each(*WRITERS)
     def test_folders(self, command: str) -> None:
@@ -195,7 +195,7 @@ class Names(WriterTest):
         (self.folder / "folder").mkdir()
         for name in ("folder", "none/"):
             ran = self.write(command, name)
-            self.assert_ran(ran, status=WRITERS[command].status, err=None)
+            self.assert_ran(ran, status=UNWRITTEN, err=None)
             self.assertTrue(ran.err.startswith(f"{name_of(command)}: {name}: "), ran.err)
         self.assertEqual(self.left(), ["folder", "t"])
 
@@ -238,7 +238,7 @@ class Links(WriterTest):
         succeeds = write_script(self.folder / "succeeds", SUCCEEDS)
         line = 'prlimit --pid=$$ --fsize=10; exec "$@"'
         ran = self.by_shell(line, "cut", "--papr", succeeds, "--parts", ".", EXAMPLES / "first.trace")
-        self.assert_ran(ran, status=2, err="papr cut: part-1.trace: File too large\n")
+        self.assert_ran(ran, status=4, err="papr cut: part-1.trace: File too large\n")
         self.assertEqual(part.read_text(), "before\n")
         self.assertEqual(self.left(), ["part-1.trace", "succeeds", "t"])
 
@@ -257,7 +257,7 @@ class Parts(ToolTest):
         (self.folder / "victim").write_text("precious\n")
         ran = self.write("os.symlink('victim', part)", "with out as text: text.write('replies')")
         self.assertEqual(ran.status, 1)
-        self.assertTrue(ran.err.endswith("common.Bad: out: File exists\n"), ran.err)
+        self.assertTrue(ran.err.endswith("common.Unwritten: out: File exists\n"), ran.err)
         self.assertEqual((self.folder / "victim").read_text(), "precious\n")
         self.assertFalse((self.folder / "out").exists())
 
@@ -280,4 +280,4 @@ class Parts(ToolTest):
     def test_a_closed_standard_output(self) -> None:
         words = [str(TOOLS / "htab-to-entries"), "--debugfs", str(DATA / "htab.debugfs")]
         ran = run("bash", "-c", '"$@" >&-', "sh", *words)
-        self.assert_ran(ran, status=2, err="htab-to-entries: standard output: Bad file descriptor\n")
+        self.assert_ran(ran, status=4, err="htab-to-entries: standard output: Bad file descriptor\n")

@@ -13,16 +13,18 @@ from pathlib import Path
 from typing import Any, ClassVar, Union
 
 from .built import BYTES_SHARED, HERE, SHARED, make_shared
-from .support import DOCS, EXAMPLES, TOP, Ran, ToolTest, Word, for_each, needs
+from .support import DOCS, EXAMPLES, TOOLS, TOP, Ran, ToolTest, Word, for_each, needs
 from .support import needs_bytes_library, needs_library, needs_shared_table, run
-from .test_c_layout import Header, header, in_capitals, text_of
+from .test_c_layout import header, in_capitals, text_of
 from .test_shared_layout import header as shared_header
 
 PACKAGE = TOP / "bindings" / "python"
-sys.path.insert(0, str(PACKAGE))
+sys.path[:0] = [str(PACKAGE), str(TOOLS)]
 
+from interface.headers import Header  # noqa: E402
 from papr import codes  # noqa: E402
-from papr._library import BYTES_FUNCTIONS, FUNCTIONS, SHARED_FUNCTIONS, VERSION  # noqa: E402
+from papr._functions import BYTES_FUNCTIONS, FUNCTIONS, SHARED_FUNCTIONS  # noqa: E402
+from papr._library import VERSION  # noqa: E402
 from papr._structs import CBytesEnd, CGrants  # noqa: E402
 from papr.shared import WALK_BUSY  # noqa: E402
 

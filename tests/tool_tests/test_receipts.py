@@ -2,6 +2,7 @@
 
 import csv
 import json
+import signal
 import sqlite3
 import subprocess
 from contextlib import closing
@@ -9,7 +10,7 @@ from pathlib import Path
 from typing import Union
 
 from .pictures import replies_of, written
-from .support import DATA, EXAMPLES, TOOLS, ToolTest, environment_with, for_each, needs, run
+from .support import A_TRACE, DATA, EXAMPLES, TOOLS, ToolTest, environment_with, for_each, needs, run
 
 RECEIPTS = TOOLS / "receipts"
 SHARING = EXAMPLES / "sharing.replies"
@@ -113,7 +114,7 @@ class Tables(ToolTest):
             self.assertEqual(tool.stdout.readline().decode(), f"{HEAD}\n")
             tool.stdout.close()
             self.assertEqual(tool.stderr.read(), b"")
-            self.assertEqual(tool.wait(), 0)
+            self.assertEqual(tool.wait(), 128 + signal.SIGPIPE)
 
     def test_lines_and_an_entry_are_chosen(self) -> None:
         every = self.rows(EXAMPLES / "sharing.replies")
@@ -158,7 +159,7 @@ class Tables(ToolTest):
         self.assertEqual(base.read_bytes(), before)
         (self.folder / "text").write_text("no database\n" * 100)
         ran = run(RECEIPTS, "--sqlite", self.folder / "text", SHARING)
-        self.assert_refused(ran, f"receipts: {self.folder / 'text'}: file is not a database")
+        self.assert_ran(ran, status=4, err=f"receipts: {self.folder / 'text'}: file is not a database\n")
 
     @needs("sqlite3")
     def test_sqlite_takes_the_table(self) -> None:
@@ -179,7 +180,7 @@ class Words(ToolTest):
 
     def test_a_trace_is_no_replies(self) -> None:
         ran = run(RECEIPTS, "--csv", EXAMPLES / "first.trace")
-        self.assert_refused(ran, "receipts: this is no reply: order 18")
+        self.assert_refused(ran, f"receipts: {A_TRACE}")
 
     def test_nothing_is_written_of_a_text_whose_end_is_no_reply(self) -> None:
         text = replies_of(SHARING) + "papr: line 9: word\n"

@@ -22,9 +22,11 @@ UNNAMED = re.compile(r"^```\n(.*?)^```\n", re.MULTILINE | re.DOTALL)
 IN_C = re.compile(r"^```c\n(.*?)^```\n", re.MULTILINE | re.DOTALL)
 INDENTED = re.compile(r"^    (\./papr |papr |tools/|make |rt (?:new|try|run)|bench/|cc )", re.MULTILINE)
 
+RECIPES = "docs/RECIPES.md"
 PAGES = (
     "README.md",
-    "docs/RECIPES.md",
+    RECIPES,
+    "docs/CONFORMANCE.md",
     "docs/RECORDING.md",
     "docs/LIBRARY.md",
     "docs/QEMU.md",
@@ -43,7 +45,8 @@ LEFT_OUT = {
     "bytes/call.c": "links what is installed; test_c_library builds the program",
     "tools/qemu-papr/build": "needs a network, and builds QEMU",
     "--until": "boots a guest in the QEMU that was built",
-    "judge-recording": "records a guest in the QEMU that was built; test_recordings judges recordings",
+    "--sshlogin": "needs several machines; test_cut_recordings runs it with a script in the place of parallel",
+    "papr-record=recorded": "records a guest in the QEMU that was built; test_recordings judges recordings",
     "parts/part-7": "looks into such a recording; test_bad_line runs the tool",
     "bench/speed": "measures for minutes",
     "bench/pool": "proves and measures for minutes",
@@ -114,6 +117,8 @@ class Commands(ToolTest):
     """The commands, each on the files that those before it in its document made."""
 
     ran: ClassVar[dict[str, Ran]]
+    left: ClassVar[list[str]]
+    beside: ClassVar[list[str]]
 
     @classmethod
     def setUpClass(cls) -> None:
@@ -122,7 +127,19 @@ class Commands(ToolTest):
         work = tempfile.TemporaryDirectory(prefix="papr-documents-")
         cls.addClassCleanup(work.cleanup)
         folders = {page: folder_of(Path(work.name), page) for page in PAGES}
-        cls.ran = {str(it): run("bash", "-c", it.command, folder=folders[it.page]) for it in RUN}
+        temporary, place = Path(work.name) / "temporary", Path(work.name) / "place"
+        temporary.mkdir()
+        cls.ran = {}
+        for block in RUN:
+            line = f'{block.command}\nstatus=$?; pwd >"$0"; exit "$status"'
+            environment = {"TMPDIR": str(temporary)}
+            cls.ran[str(block)] = run("bash", "-c", line, place, folder=folders[block.page], environment=environment)
+            if place.is_file():  # the next one begins where this one ended
+                folders[block.page] = Path(place.read_text(encoding="utf-8").rstrip("\n"))
+                place.unlink()
+        cls.left = sorted(it.name for it in folder_of(Path(work.name) / "new", RECIPES).iterdir())
+        beside = (Path(work.name) / "RECIPES" / "papr").iterdir()
+        cls.beside = sorted(it.name for it in beside if it.name != "out")  # git takes no notice of that
 
     @for_each(*map(str, RUN))
     def test_the_document_says_what_its_command_writes(self, name: str) -> None:
@@ -133,6 +150,9 @@ class Commands(ToolTest):
         self.assertIn(ran.status, (0, 1), f"{block.command}{ran.err}")
         if block.written is not None:
             self.assert_text(ran.out, block.written)
+
+    def test_the_recipes_leave_nothing_in_the_sources(self) -> None:
+        self.assertEqual(self.beside, self.left)
 
 
 class Pages(ToolTest):
@@ -189,10 +209,53 @@ class Texts(ToolTest):
             self.assert_ran(ran, out=found[at + 1] if has_replies else "")
 
 
+# What the lines of C take for granted.
+HELPERS = """\
+#include <papr.h>
+#include <papr_shared.h>
+#include <sched.h>
+#include <stdlib.h>
+void send(uint32_t index, const struct papr_entry *entry);
+void tlb_fill(uint64_t ea, uint64_t logical, uint8_t shift, uint32_t rights);
+void give_way(unsigned tries);
+"""
+IN_HEADER = re.compile(r"(?m)^ \* {5}(.*)$")
+
+
+class Compiled(ToolTest):
+    """The lines of C in the documents and at the head of papr_shared.h, as C and as C++."""
+
+    def assert_compiles(self, text: str, language: str) -> None:
+        """The text has no error, and nothing that a compiler warns of."""
+        compiler = {"c": "cc", "c++": "c++"}[language]
+        options = [f"-x{language}", "-Wall", "-Wextra", "-Werror", "-fsyntax-only", f"-I{TOP / 'include'}"]
+        self.assert_ran(run(compiler, *options, "-", given=text))
+
+    @needs("cc", "c++")
+    @for_each("c", "c++")
+    def test_those_of_the_documents(self, language: str) -> None:
+        """Each block may use what those before it declare."""
+        first, *others = [block for page in PAGES for block in IN_C.findall(text_of(page))]
+        self.assertGreater(len(others), 3)
+        blocks = ["", f"{first}(void)reply;\n", *others]  # (which its remark alone looks at)
+        self.assert_compiles(f"{HELPERS}void lines(void)\n{'{'.join(blocks)}{'}' * len(blocks[1:])}\n", language)
+
+    @needs("cc", "c++")
+    @for_each("c", "c++")
+    def test_those_of_the_header(self, language: str) -> None:
+        """A try again gives way to other threads."""
+        lines = "\n".join(IN_HEADER.findall((TOP / "include" / "papr_shared.h").read_text(encoding="ascii")[:3_000]))
+        self.assertIn("sched_yield();", lines)
+        numbers = ", ".join(f"uint64_t {name}" for name in ("flags", "ptex", "pteh", "ptel"))
+        given = f"struct papr_pass pass, struct papr_grants grants, {numbers}"
+        rooms = "uint64_t words[8]; struct papr_receipt receipts[16];"
+        self.assert_compiles(f"{HELPERS}void lines({given})\n{{\n{rooms}\n{lines}\n}}\n", language)
+
+
 @needs_library
 @needs("cc")
 class InC(ToolTest):
-    """The lines of C in docs/LIBRARY.md."""
+    """The first lines of C in docs/LIBRARY.md."""
 
     def test_they_compile_and_do_what_their_remark_says(self) -> None:
         found = IN_C.search(text_of("docs/LIBRARY.md"))

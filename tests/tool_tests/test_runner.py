@@ -2,7 +2,7 @@
 
 import shutil
 
-from .support import BYTES_LIBRARY, LIBRARY, SHARED_TABLE, TOP, Ran, ToolTest, run
+from .support import BYTES_LIBRARY, LIBRARY, SHARED_TABLE, TOP, Ran, ToolTest, Word, run
 
 RUNNER = TOP / "tests" / "tools"
 
@@ -41,7 +41,7 @@ ENDS_EARLY = "import os\nos._exit(7)\n"
 class Planted(ToolTest):
     """The runner over modules that fail, in a checkout of its own."""
 
-    def run_modules(self, **modules: str) -> Ran:
+    def run_modules(self, *words: Word, **modules: str) -> Ran:
         """Runs it over modules with these texts."""
         tests = self.folder / "tests"
         package = tests / "tool_tests"
@@ -51,7 +51,7 @@ class Planted(ToolTest):
             shutil.copyfile(RUNNER.parent / "tool_tests" / name, package / name)
         for name, text in modules.items():
             (package / f"test_{name}.py").write_text(text, encoding="ascii")
-        return run(tests / "tools")
+        return run(tests / "tools", *words)
 
     def test_each_test_counts_once_and_a_failure_is_shown_whole(self) -> None:
         ran = self.run_modules(planted=PLANTED)
@@ -79,6 +79,19 @@ class Planted(ToolTest):
         ran = self.run_modules(alone=alone, slow=slow)
         self.assertEqual(ran.out.splitlines()[-1], "0 passed, 0 failed, 0 skipped")
         self.assertEqual((self.folder / "tests" / "tool_tests" / "alone").read_text(), "True")
+
+    def test_a_line_names_the_programs_that_are_not_installed(self) -> None:
+        """The reasons are those of support.needs and of tests that look for themselves."""
+        reasons = ("fish is not installed", "fish and zsh is not installed", "nothing is here")
+        tests = "".join(
+            f"    @unittest.skip({reason!r})\n    def test_{at}(self) -> None:\n        self.fail()\n\n"
+            for at, reason in enumerate(reasons)
+        )
+        place = self.folder / "lacking"
+        ran = self.run_modules("--lacking", place, lacks=f"import unittest\n\n\nclass A(unittest.TestCase):\n{tests}")
+        self.assert_ran(ran, out=None)
+        told = "tests were skipped for want of fish (2), zsh (1); tools/packages names the packages\n"
+        self.assert_text(place.read_text(), told)
 
 
 class Words(ToolTest):

@@ -5,6 +5,7 @@ import tempfile
 from pathlib import Path
 from typing import ClassVar
 
+from .built import must_run
 from .support import BYTES_LIBRARY, DOCS, EXAMPLES, LIBRARY, SHARED_TABLE, TOP, VERSION, Ran, ToolTest, for_each
 from .support import needs, needs_bytes_library, needs_library, needs_shared_table, run
 from .test_shared_table import ENTERED as ENTERED_BY_TWO
@@ -12,6 +13,7 @@ from .test_shared_table import ENTERED as ENTERED_BY_TWO
 CRATES = TOP / "bindings" / "rust"
 # Where cargo builds, so that the next run finds what hasn't changed.
 TARGET = TOP / "out" / "rust"
+RPATH = re.compile(r'`RUSTFLAGS="([^"]*)"`')
 FROM_RUST = re.compile(r"^## From Rust$.*?(?=^## |\Z)", re.MULTILINE | re.DOTALL)
 IN_RUST = re.compile(r"^```rust\n(.*?)^```\n\n?.*?^```text\n(.*?)^```$", re.MULTILINE | re.DOTALL)
 
@@ -101,6 +103,20 @@ class OverTheLibraries(ToolTest):
     @needs_bytes_library
     def test_the_tests_of_the_crates_pass_with_all(self) -> None:
         self.assert_tests_pass("--all-features")
+
+    @needs("make")
+    def test_a_program_over_the_shared_object_starts(self) -> None:
+        """As the document says: by its own path, or by the variable."""
+        folder = self.folder / "lib"
+        folder.mkdir()
+        must_run(TOP / "tools" / "shared-library", LIBRARY, SHARED_TABLE, folder / f"libpapr.so.{VERSION}")
+        flags = RPATH.findall((DOCS / "LIBRARY.md").read_text(encoding="utf-8"))
+        self.assertEqual(len(flags), 1)
+        words = ("run", "--quiet", "--example", "enter")
+        flag = flags[0].replace("$PAPR_LIB_DIR", str(folder))
+        for name, value in (("RUSTFLAGS", flag), ("LD_LIBRARY_PATH", str(folder))):
+            given = {"CARGO_TARGET_DIR": str(self.folder / name), "PAPR_LIB_DIR": str(folder), name: value}
+            self.assert_ran(cargo(*words, **given), ENTERED)
 
     def test_the_program_of_the_examples(self) -> None:
         self.assertTrue((EXAMPLES / "rust" / "enter.rs").is_file())

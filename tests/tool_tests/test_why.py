@@ -1,17 +1,19 @@
 """Tests of the tool that says why a trace is refused."""
 
+import sys
 from typing import Optional, Union
 
 from .formats import SETS, causes_of_entries, rule
 from .installed import InstalledTest
 from .support import EXAMPLES, TOOLS, ToolTest, for_each, run
 
+sys.path.insert(0, str(TOOLS))
+
+from interface.calls import calls  # noqa: E402
+
 SETTINGS = "order, limit, cpus, pool, ram, io, entry, window, begin, dump"
-CALLS = (
-    "H_ENTER, H_REMOVE, H_PROTECT, H_READ, H_CLEAR_REF, H_CLEAR_MOD, H_BULK_REMOVE, "
-    "H_RESIZE_HPT_PREPARE, H_RESIZE_HPT_COMMIT, hcall, H_PUT_TCE, H_GET_TCE, load, store, fetch, dmaread, "
-    "dmawrite, slbmte, slbclear, amr, iamr"
-)
+OTHERS = "hcall, load, store, fetch, dmaread, dmawrite, slbmte, slbclear, amr, iamr"
+CALLS = f"{', '.join(call.name for call in calls())}, {OTHERS}"
 WORDS = f"a line begins with {SETTINGS}, or with a processor's number and then {CALLS}"
 GRANT = "; accepted: see the reasons from `empty` to `tables`"
 WINDOW = (

@@ -84,6 +84,7 @@ pub record FullOk (p : Pair) (owed : List Op) (x : Entry) : Type 0 where
   pub changed : p.changed ≡ true → x.published.changed ≡ true
   pub allowed : (n : ℕ) (op : Op) → slice_get owed n ≡ Some op → allows p op ≡ true
 
+-- What holds of a place, by what it keeps of the entry.
 abbrev pub PlaceOk : Place → Entry → Type 0
 PlaceOk Empty x = Unit {0}
 PlaceOk (HalfWalked old word) x = HalfOk word x
